@@ -1,0 +1,2 @@
+-- Lemmas that know nothing of laboratories.
+pub mod Table

@@ -1,0 +1,1 @@
+// Lemmas that know nothing of laboratories. No function is here.
