@@ -1,2 +1,9 @@
 -- Lemmas that know nothing of laboratories.
+pub mod Below
+pub mod Bools
+pub mod Masks
 pub mod Table
+pub mod Cond
+pub mod Order
+pub mod Word
+pub mod Lists

@@ -1,0 +1,7 @@
+-- The chart law, and the claim from its parts.
+pub mod Best
+pub mod Chart
+pub mod Entry
+pub mod Missed
+pub mod Charted
+pub mod Claim

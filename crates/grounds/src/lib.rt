@@ -1,0 +1,1 @@
+// The chart law and the grounds for probation, over any charts and limits. No function is here.
