@@ -1,0 +1,81 @@
+-- What it says of the fields that no row fits. Assumes nothing.
+use Prim.Native.Nat.{ℕ, suc, _%_, _^_, _≤_, _<_}
+use mathlib.Core.Path.{_≡_, refl, sym, ap, _∙_, subst}
+use mathlib.Core.Bool.{Bool, true, false, cond, not, _&&_, _||_, false≢true}
+use mathlib.Core.List.{List}
+use native.Mathlib.Omega.{arith}
+use borrow.Author.Tests.{ltb-false, lt-ltb, le-ltb, leb-true, eq-eqb, eqb-true, not-false}
+use lib.Dec.{T, ltb, leb, eqb}
+use lib.Ieee.{binary32, nanBits, ofBits}
+use lib.Ieee.Bits.{nanBits-above}
+use Rattle.laws.proofs.Bools.{or-neither}
+use Rattle.line.specs.Fields.{PERCENT, LOST}
+use Rattle.line.specs.Percent.{accepted}
+use Rattle.line.specs.Refused.{Row, firstRow, rowsOf, fieldRows, kindRow, dateRow, productRow, meanRow, readingRow}
+use Rattle.line.specs.declared.fields.Fields.{Fields}
+use Rattle.line.specs.declared.fields.Tagged.{Tagged}
+use Rattle.line.proofs.PercentLaws.{accepted-pattern}
+
+-- ---- the first row is 0 exactly where no row fits
+
+pub passed : (n : ℕ) (b : Bool) (rest : ℕ) → cond b (suc n) rest ≡ 0 → (b ≡ false) × (rest ≡ 0)
+passed n true rest e = absurd (omega arith)
+passed n false rest e = (refl, e)
+
+-- none of rows 3 to 7 fits
+pub record Clean (f : Fields) : Type 0 where
+  pub kind : kindRow (f .kind) ≡ false
+  pub date : dateRow (f .year) (f .month) ≡ false
+  pub product : productRow (f .product) ≡ false
+  pub mean : meanRow (f .product) (f .means) ≡ false
+  pub moisture : readingRow (f .moisture) ≡ false
+  pub protein : readingRow (f .protein) ≡ false
+  pub fat : readingRow (f .fat) ≡ false
+  pub salt : readingRow (f .salt) ≡ false
+
+pub clean : (f : Fields) → firstRow (fieldRows f) ≡ 0 → Clean f
+unfolding firstRow
+clean f e =
+    let k = passed 2 _ _ e in
+    let d = passed 3 _ _ (k .1) in
+    let p = passed 4 _ _ (d .1) in
+    let m = passed 5 _ _ (p .1) in
+    let r = passed 6 _ _ (m .1) in
+    let s = or-neither (readingRow (f .moisture) || readingRow (f .protein) || readingRow (f .fat)) (readingRow (f .salt)) (r .0) in
+    let t = or-neither (readingRow (f .moisture) || readingRow (f .protein)) (readingRow (f .fat)) (s .0) in
+    let q = or-neither (readingRow (f .moisture)) (readingRow (f .protein)) (t .0) in
+    record { kind = k .0; date = d .0; product = p .0; mean = m .0; moisture = q .0; protein = q .1; fat = t .1; salt = s .1 }
+
+-- ---- a reading that row 7 does not fit
+
+pub record GoodReading (t : Tagged) : Type 0 where
+  pub tag : t .tag ≤ LOST
+  pub zero : (t .tag ≡ PERCENT → ⊥) → t .bits ≡ 0
+  pub percent : t .tag ≡ PERCENT → accepted (ofBits binary32 (t .bits)) ≡ true
+
+and-gives : (a b : Bool) → a ≡ true → (a && not b) ≡ false → b ≡ true
+and-gives true b p e = not-false b e
+and-gives false b p e = absurd (false≢true p)
+
+pub good-reading : (t : Tagged) → readingRow t ≡ false → GoodReading t
+unfolding readingRow
+good-reading t e =
+    let p = or-neither (ltb LOST (t .tag) || (ltb PERCENT (t .tag) && not (eqb (t .bits) 0))) (eqb (t .tag) PERCENT && not (accepted (ofBits binary32 (t .bits)))) e in
+    let q = or-neither (ltb LOST (t .tag)) (ltb PERCENT (t .tag) && not (eqb (t .bits) 0)) (p .0) in
+    record {
+      tag = ltb-false LOST (t .tag) (q .0);
+      zero = λ n. eqb-true (t .bits) 0 (and-gives (ltb PERCENT (t .tag)) (eqb (t .bits) 0) (lt-ltb PERCENT (t .tag) (above (t .tag) n)) (q .1));
+      percent = λ z. and-gives (eqb (t .tag) PERCENT) (accepted (ofBits binary32 (t .bits))) (eq-eqb (t .tag) PERCENT z) (p .1);
+    }
+  where
+    above : (n : ℕ) → (n ≡ 0 → ⊥) → 0 < n
+    above n h = omega arith
+
+-- an accepted percent's pattern is at most that of 100.0, so it is no NaN's
+pub percent-bits : (b : ℕ) → b < 2 ^ 32 → accepted (ofBits binary32 b) ≡ true → b ≤ 0x42c80000
+percent-bits b B e = leb-true b 0x42c80000 (sym (accepted-pattern b B) ∙ e)
+
+pub not-nan : (b : ℕ) → b ≤ 0x42c80000 → T (not (nanBits binary32 b))
+not-nan b h =
+    let low : ltb 2139095040 (b % 2147483648) ≡ false = le-ltb 2139095040 (b % 2147483648) (omega arith) in
+    subst (λ (t : Bool). T (not t)) (sym (nanBits-above binary32 b ∙ low)) tt

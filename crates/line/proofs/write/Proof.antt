@@ -1,0 +1,72 @@
+-- `write` meets its contract: each return is a case of `writtenOf` and `bufferAfter`. Assumes nothing.
+use mathlib.Core.Path.{_≡_, sym, ap, _∙_}
+use mathlib.Core.List.{List, _++_}
+use Prim.Native.Nat.{ℕ}
+use lib.ListN.{take, drop}
+use lib.Seq.{take-at}
+use Rattle.line.specs.Digits.{digitsOf}
+use Rattle.line.specs.Fields.{fieldsOf, bytesIn}
+use Rattle.line.specs.Read.{readOf}
+use Rattle.line.specs.Write.{lineOf}
+use Rattle.line.specs.Refused.{firstRow, fieldRows}
+use Rattle.line.specs.declared.fields.Fields.{Fields}
+use Rattle.line.proofs.ByteLaws.{length-digitsOf}
+use Rattle.line.proofs.Inverse.{read-again}
+use Rattle.line.proofs.WriteLaws.{kept-short, kept-row, done, refused-done}
+use borrow.Author.Needs.{needs}
+use Rattle.line.proofs.write.Statement.{statement}
+use Rattle.line.proofs.write.Tie as tie
+
+row : (c : tie.After-first-row) → c .first-row .result ≡ firstRow (fieldRows (fieldsOf (c .before .before .before .before .args .«record»)))
+row c = c .first-row .ensures ∙ ap (λ (f : Fields). firstRow (fieldRows f)) (c .before .fields-of .ensures .0)
+
+returns : tie.Need-returns
+returns c = let k = kept-short (c .before .before .args .«record») (c .before .before .args .buffer .now) (c .if1 .taken) in (k .0, (k .1, λ e. refused-done _ _ e))
+
+fields-of-requires : tie.Need-fields-of-requires
+fields-of-requires c κs = search needs
+
+first-row-requires : tie.Need-first-row-requires
+first-row-requires c κs = search needs
+
+returns-2 : tie.Need-returns-2
+returns-2 c =
+    let start = c .before .before .before .before .before .args in
+    let k = kept-row (start .«record») (start .buffer .now) _ (c .before .before .before .if1 .left) (row (c .before)) (c .if2 .taken) in
+    (k .0, (k .1, λ e. refused-done _ _ e))
+
+bytes-in-requires : tie.Need-bytes-in-requires
+bytes-in-requires c κs = search needs
+
+put-requires : tie.Need-put-requires
+put-requires c κs = search needs
+
+same-length : tie.Need-same-length
+same-length c = search needs
+
+returns-3 : tie.Need-returns-3
+returns-3 c =
+    let at = c .before .before .before .before .before .before in
+    let start = at .before .before .before .before .args in
+    let d = done (start .«record») (start .buffer .now) (at .before .before .if1 .left) (sym (row at) ∙ c .before .before .before .before .before .if2 .left) in
+    let bytes = c .before .before .before .before .bytes-in .ensures ∙ ap bytesIn (at .before .fields-of .ensures .0) in
+    let after = c .before .before .put .ensures ∙ ap (λ (b : List ℕ). digitsOf b ++ drop 68 (start .buffer .now)) bytes in (
+      d .0,
+      (
+        after ∙ d .1,
+        λ e. ap readOf (ap (take 68) after ∙ take-at (lineOf (start .«record»)) _ 68 (length-digitsOf (bytesIn (fieldsOf (start .«record»))))) ∙ read-again (start .«record») (at .before .fields-of .ensures .1) (sym (row at) ∙ c .before .before .before .before .before .if2 .left),
+      ),
+    )
+
+pub write-spec : {M : Type 1} → statement M
+write-spec =
+    tie.close
+    (tie.spec
+    returns
+    fields-of-requires
+    first-row-requires
+    returns-2
+    bytes-in-requires
+    put-requires
+    same-length
+    returns-3)

@@ -1,0 +1,8 @@
+-- What a line is, which lines are refused, and what reading and writing give: document 01, "The line" and "Refused".
+pub mod Digits
+pub mod Percent
+pub mod Fields
+pub mod Refused
+pub mod Read
+pub mod Write
+pub mod Held

@@ -1,0 +1,106 @@
+-- Document 01, "Refused": rows 1 to 7 and 13 of the table, each a test that is true where the row fits.
+use Prim.Native.Nat.{ℕ, _+_, _*_, _/_, _%_}
+use mathlib.Core.Bool.{Bool, true, false, cond, not, _&&_, _||_}
+use mathlib.Core.List.{List, [], _∷_}
+use lib.Dec.{leb, ltb, eqb}
+use lib.Ieee.{binary32, ofBits}
+use Rattle.line.specs.Fields.{PERCENT, LOST}
+use Rattle.line.specs.Percent.{accepted}
+use Rattle.line.specs.declared.fields.Fields.{Fields}
+use Rattle.line.specs.declared.fields.Tagged.{Tagged}
+use Rattle.line.specs.declared.record.Means.{Means}
+
+-- the rows' numbers
+abbrev pub LENGTH : ℕ
+LENGTH = 1
+
+abbrev pub DIGIT : ℕ
+DIGIT = 2
+
+abbrev pub KIND : ℕ
+KIND = 3
+
+abbrev pub DATE : ℕ
+DATE = 4
+
+abbrev pub PRODUCT : ℕ
+PRODUCT = 5
+
+abbrev pub MEAN : ℕ
+MEAN = 6
+
+abbrev pub READING : ℕ
+READING = 7
+
+abbrev pub SHORT : ℕ
+SHORT = 13
+
+-- a row of the table: its number, and whether it fits
+pub record Row : Type 0 where
+  pub number : ℕ
+  pub fits : Bool
+
+-- The number of the first row that fits, or 0 where none does.
+unfoldable pub firstRow : List Row → ℕ
+firstRow [] = 0
+firstRow (r ∷ rows) = cond (r .fits) (r .number) (firstRow rows)
+
+-- whether the row of a number fits
+unfoldable pub rowFits : ℕ → List Row → Bool
+rowFits n [] = false
+rowFits n (r ∷ rows) = (eqb (r .number) n && r .fits) || rowFits n rows
+
+-- kind: not 01 or 02
+unfoldable pub kindRow : ℕ → Bool
+kindRow kind = not (eqb kind 1 || eqb kind 2)
+
+-- date: year or month outside
+unfoldable pub dateRow : ℕ → ℕ → Bool
+dateRow year month = ltb year 2000 || ltb 2099 year || ltb month 1 || ltb 12 month
+
+-- bits 0 and 1 of the product
+abbrev pub classOf : ℕ → ℕ
+classOf product = product % 4
+
+-- bit 7 of the product: dry salami or pepperoni
+abbrev pub isDry : ℕ → Bool
+isDry product = not (eqb (product / 128) 0)
+
+-- product: bits 2 to 6 set, or bit 7 without class 2
+unfoldable pub productRow : ℕ → Bool
+productRow product = not (eqb (product / 4 % 32) 0) || (isDry product && not (eqb (classOf product) 2))
+
+-- the highest mean: a hundred percent, in hundredths
+abbrev pub MOST : ℕ
+MOST = 10000
+
+-- mean: above 10000; protein below 5; fat 0; class 1 fat below 1250
+unfoldable pub meanRow : ℕ → Means → Bool
+meanRow product m =
+    (ltb MOST (m .moisture) || ltb MOST (m .protein) || ltb MOST (m .fat) || ltb MOST (m .salt))
+    || ltb (m .protein) 5
+    || eqb (m .fat) 0
+    || (eqb (classOf product) 1 && ltb (m .fat) 1250)
+
+-- reading: tag above 02, nonzero bytes under 01 or 02, percent not accepted
+unfoldable pub readingRow : Tagged → Bool
+readingRow t =
+    ltb LOST (t .tag)
+    || (ltb PERCENT (t .tag) && not (eqb (t .bits) 0))
+    || (eqb (t .tag) PERCENT && not (accepted (ofBits binary32 (t .bits))))
+
+-- Rows 3 to 7 of the table, in its order, by whether each fits.
+abbrev pub rowsOf : Bool → Bool → Bool → Bool → Bool → List Row
+rowsOf kind date product mean reading =
+    record { number = KIND; fits = kind }
+    ∷ record { number = DATE; fits = date }
+    ∷ record { number = PRODUCT; fits = product }
+    ∷ record { number = MEAN; fits = mean }
+    ∷ record { number = READING; fits = reading }
+    ∷ []
+
+-- Rows 3 to 7 for the fields of a line or of a record: one definition, for reading and for writing.
+abbrev pub fieldRows : Fields → List Row
+fieldRows f =
+    rowsOf (kindRow (f .kind)) (dateRow (f .year) (f .month)) (productRow (f .product)) (meanRow (f .product) (f .means))
+    (readingRow (f .moisture) || readingRow (f .protein) || readingRow (f .fat) || readingRow (f .salt))

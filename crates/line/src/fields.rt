@@ -1,0 +1,229 @@
+// The fields of a line as numbers, in the order of document 01's table: from and to 34 bytes, and
+// from and to a record.
+
+use crate::percent::bits_of;
+use crate::record::Means;
+use crate::record::Reading;
+use crate::record::Readings;
+use crate::record::Record;
+ghost use mathlib.Core.Path.{_≡_};
+ghost use mathlib.Core.Bool.{false};
+ghost use Prim.Native.Nat.{_<_, _+_, _*_, _/_, _%_};
+ghost use lib.ListN.{set};
+ghost use Rattle.line.specs.Fields.{two, four, tagged, fieldsIn, bytesIn, readingOf, taggedOf, recordOf, fieldsOf};
+ghost use Rattle.line.specs.Held.{Held, HeldReading};
+ghost use Rattle.line.specs.Refused.{readingRow, firstRow, fieldRows};
+
+// The tags of a reading.
+pub const PERCENT: u8 = 0;
+
+pub const NOTHING_FOUND: u8 = 1;
+
+pub const LOST: u8 = 2;
+
+// A reading as a line has it: the tag, and the number that the four bytes after it make.
+pub struct Tagged {
+    pub tag: u8,
+    pub bits: u32,
+}
+
+pub struct Fields {
+    pub kind: u8,
+    pub year: u16,
+    pub month: u8,
+    pub days: u8,
+    pub product: u8,
+    pub means: Means,
+    pub moisture: Tagged,
+    pub protein: Tagged,
+    pub fat: Tagged,
+    pub salt: Tagged,
+}
+
+// Two bytes as a number, the high one first.
+fn two(high: u8, low: u8) -> u16
+    ensures { λ r. ⌜ r ≡ 256 * high + low ⌝ }
+{
+    (high as u16) << 8 | low as u16
+}
+
+// The lowest byte of a number.
+fn low_byte(n: u32) -> u8
+    ensures { λ r. ⌜ r ≡ n % 256 ⌝ }
+{
+    (n & 0xff) as u8
+}
+
+// Puts a number's two bytes at i.
+fn put2(mut b: [u8; 34], i: usize, n: u16) -> [u8; 34]
+    requires { ⌜ i + 1 < 34 ⌝ }
+    ensures { λ r. ⌜ r ≡ set (set b i (n / 256)) (i + 1) (n % 256) ⌝ }
+{
+    b[i] = (n >> 8) as u8;
+    b[i + 1] = low_byte(n as u32);
+    b
+}
+
+// Puts a tagged reading's five bytes at i.
+fn put5(mut b: [u8; 34], i: usize, t: Tagged) -> [u8; 34]
+    requires { ⌜ i + 4 < 34 ⌝ }
+    ensures { λ r. ⌜ r ≡ set (set (set (set (set b i (t .tag)) (i + 1) (t .bits / 16777216)) (i + 2) (t .bits / 65536 % 256)) (i + 3) (t .bits / 256 % 256)) (i + 4) (t .bits % 256) ⌝ }
+{
+    let n = t.bits;
+    b[i] = t.tag;
+    b[i + 1] = (n >> 24) as u8;
+    b[i + 2] = low_byte(n >> 16);
+    b[i + 3] = low_byte(n >> 8);
+    b[i + 4] = low_byte(n);
+    b
+}
+
+// The number that the two bytes from i on make.
+fn two_at(b: [u8; 34], i: usize) -> u16
+    requires { ⌜ i + 1 < 34 ⌝ }
+    ensures { λ r. ⌜ r ≡ two b i ⌝ }
+{
+    two(b[i], b[i + 1])
+}
+
+// The number that the four bytes from i on make.
+fn four_at(b: [u8; 34], i: usize) -> u32
+    requires { ⌜ i + 3 < 34 ⌝ }
+    ensures { λ r. ⌜ r ≡ four b i ⌝ }
+{
+    (two_at(b, i) as u32) << 16 | two_at(b, i + 2) as u32
+}
+
+// The tag at i and the number that the four bytes after it make.
+fn tagged_at(b: [u8; 34], i: usize) -> Tagged
+    requires { ⌜ i + 4 < 34 ⌝ }
+    ensures { λ r. ⌜ r ≡ tagged b i ⌝ }
+{
+    Tagged {
+        tag: b[i],
+        bits: four_at(b, i + 1),
+    }
+}
+
+// The fields that 34 bytes hold.
+pub fn fields_in(b: [u8; 34]) -> Fields
+    ensures { λ r. ⌜ r ≡ fieldsIn b ⌝ }
+{
+    Fields {
+        kind: b[0],
+        year: two_at(b, 1),
+        month: b[3],
+        days: b[4],
+        product: b[5],
+        means: Means {
+            moisture: two_at(b, 6),
+            protein: two_at(b, 8),
+            fat: two_at(b, 10),
+            salt: two_at(b, 12),
+        },
+        moisture: tagged_at(b, 14),
+        protein: tagged_at(b, 19),
+        fat: tagged_at(b, 24),
+        salt: tagged_at(b, 29),
+    }
+}
+
+// The 34 bytes that hold the fields.
+pub fn bytes_in(f: Fields) -> [u8; 34]
+    ensures { λ r. ⌜ r ≡ bytesIn f ⌝ }
+{
+    let mut b = [0u8; 34];
+    b[0] = f.kind;
+    b[3] = f.month;
+    b[4] = f.days;
+    b[5] = f.product;
+    b = put2(b, 1, f.year);
+    b = put2(b, 6, f.means.moisture);
+    b = put2(b, 8, f.means.protein);
+    b = put2(b, 10, f.means.fat);
+    b = put2(b, 12, f.means.salt);
+    b = put5(b, 14, f.moisture);
+    b = put5(b, 19, f.protein);
+    b = put5(b, 24, f.fat);
+    put5(b, 29, f.salt)
+}
+
+// A reading by its tag, of fields that no row refuses.
+fn reading_of(t: Tagged) -> Reading
+    requires { ⌜ readingRow t ≡ false ⌝ }
+    ensures { λ r. ⌜ r ≡ readingOf t ⌝ }
+{
+    if t.tag == PERCENT {
+        return Reading::Percent(f32::from_bits(t.bits));
+    }
+    if t.tag == NOTHING_FOUND {
+        return Reading::NothingFound;
+    }
+    Reading::Lost
+}
+
+// A reading's tag and number. A percent is a value of binary32, by its type.
+fn tagged_of(r: Reading) -> Tagged
+    ensures tagged { λ t. ⌜ t ≡ taggedOf r ⌝ }
+    ensures held { λ t. ⌜ HeldReading r ⌝ }
+{
+    match r {
+        Reading::Percent(x) => Tagged {
+            tag: PERCENT,
+            bits: bits_of(x),
+        },
+        Reading::NothingFound => Tagged {
+            tag: NOTHING_FOUND,
+            bits: 0,
+        },
+        Reading::Lost => Tagged { tag: LOST, bits: 0 },
+    }
+}
+
+// The record that the fields hold, where no row refuses them.
+pub fn record_of(f: Fields) -> Record
+    requires { ⌜ firstRow (fieldRows f) ≡ 0 ⌝ }
+    ensures { λ r. ⌜ r ≡ recordOf f ⌝ }
+{
+    let means = f.means;
+    let readings = Readings {
+        moisture: reading_of(f.moisture),
+        protein: reading_of(f.protein),
+        fat: reading_of(f.fat),
+        salt: reading_of(f.salt),
+    };
+    Record {
+        kind: f.kind,
+        year: f.year,
+        month: f.month,
+        days: f.days,
+        product: f.product,
+        means,
+        readings,
+    }
+}
+
+// A record's fields. They are within their bounds, by their types.
+pub fn fields_of(r: Record) -> Fields
+    ensures fields { λ f. ⌜ f ≡ fieldsOf r ⌝ }
+    ensures held { λ f. ⌜ Held r ⌝ }
+{
+    let means = r.means;
+    let readings = r.readings;
+    let moisture = readings.moisture;
+    let protein = readings.protein;
+    let fat = readings.fat;
+    let salt = readings.salt;
+    Fields {
+        kind: r.kind,
+        year: r.year,
+        month: r.month,
+        days: r.days,
+        product: r.product,
+        means,
+        moisture: tagged_of(moisture),
+        protein: tagged_of(protein),
+        fat: tagged_of(fat),
+        salt: tagged_of(salt),
+    }
+}

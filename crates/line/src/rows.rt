@@ -1,0 +1,93 @@
+// Rows 3 to 7 of the refusals, each true where the row fits, and the first that does.
+
+use crate::fields::Fields;
+use crate::fields::LOST;
+use crate::fields::PERCENT;
+use crate::fields::Tagged;
+use crate::percent::HUNDRED;
+use crate::record::Means;
+use crate::refusal::DATE;
+use crate::refusal::KIND;
+use crate::refusal::MEAN;
+use crate::refusal::PRODUCT;
+use crate::refusal::READING;
+ghost use mathlib.Core.Path.{_≡_};
+ghost use Rattle.line.specs.Refused.{firstRow, rowsOf, fieldRows, kindRow, dateRow, productRow, meanRow, readingRow};
+
+// The highest mean: a hundred percent, in hundredths.
+const MOST: u16 = 10000;
+
+fn kind_row(kind: u8) -> bool
+    ensures { λ r. ⌜ r ≡ kindRow kind ⌝ }
+{
+    !((kind == 1) | (kind == 2))
+}
+
+fn date_row(year: u16, month: u8) -> bool
+    ensures { λ r. ⌜ r ≡ dateRow year month ⌝ }
+{
+    (year < 2000) | (2099 < year) | (month < 1) | (12 < month)
+}
+
+// Bits 0 and 1 are the class, and bit 7 is for dry salami or pepperoni.
+pub fn product_row(product: u8) -> bool
+    ensures { λ r. ⌜ r ≡ productRow product ⌝ }
+{
+    (product >> 2 & 31 != 0) | ((product >> 7 != 0) & (product & 3 != 2))
+}
+
+fn mean_row(product: u8, m: Means) -> bool
+    ensures { λ r. ⌜ r ≡ meanRow product m ⌝ }
+{
+    ((MOST < m.moisture) | (MOST < m.protein) | (MOST < m.fat) | (MOST < m.salt))
+        | (m.protein < 5)
+        | (m.fat == 0)
+        | ((product & 3 == 1) & (m.fat < 1250))
+}
+
+fn reading_row(t: Tagged) -> bool
+    ensures { λ r. ⌜ r ≡ readingRow t ⌝ }
+{
+    (LOST < t.tag)
+        | ((PERCENT < t.tag) & (t.bits != 0))
+        | ((t.tag == PERCENT) & !(t.bits <= HUNDRED))
+}
+
+// The number of the first row that fits, or 0.
+fn first_of(kind: bool, date: bool, product: bool, mean: bool, reading: bool) -> u8
+    ensures { λ r. ⌜ r ≡ firstRow (rowsOf kind date product mean reading) ⌝ }
+{
+    if kind {
+        return KIND;
+    }
+    if date {
+        return DATE;
+    }
+    if product {
+        return PRODUCT;
+    }
+    if mean {
+        return MEAN;
+    }
+    if reading {
+        return READING;
+    }
+    0
+}
+
+// The first of rows 3 to 7 that fits the fields, or 0.
+pub fn first_row(f: Fields) -> u8
+    ensures { λ r. ⌜ r ≡ firstRow (fieldRows f) ⌝ }
+{
+    let reading = reading_row(f.moisture)
+        | reading_row(f.protein)
+        | reading_row(f.fat)
+        | reading_row(f.salt);
+    first_of(
+        kind_row(f.kind),
+        date_row(f.year, f.month),
+        product_row(f.product),
+        mean_row(f.product, f.means),
+        reading,
+    )
+}
