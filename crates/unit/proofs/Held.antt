@@ -1,0 +1,35 @@
+-- No sum of a set can overflow: the bounds of n differences, one difference more, and a list's. Assumes nothing.
+use mathlib.Core.List.{List, [], _∷_}
+use Prim.Native.Nat.{ℕ, suc, _≤_}
+use native.Mathlib.Nat.{mul-le-mul}
+use native.Mathlib.Omega.{arith}
+use lib.ListN.{length}
+use lib.IntN.{ℤ, natAbs}
+use Rattle.laws.proofs.Word.{abs-plus}
+use Rattle.unit.specs.declared.study.Sums.{Sums}
+use Rattle.unit.specs.Study.{noSums, addedOf, sumsOf, Held}
+use Rattle.unit.proofs.Bounds.{measure-small}
+
+pub none-held : Held 0 noSums
+none-held = record { s = omega arith; q = omega arith; g = omega arith }
+
+pub more-held : {n : ℕ} (sums : Sums) (d : ℤ) → natAbs d ≤ 999 → Held n sums → Held (suc n) (addedOf sums d)
+more-held sums d h k =
+    record {
+      s = omega (arith, abs-plus (sums .s) d, k .s);
+      q = omega (arith, mul-le-mul h h, k .q);
+      g = omega (arith, measure-small (natAbs d) h, k .g);
+    }
+
+pub fewer-held : {m n : ℕ} (sums : Sums) → m ≤ n → Held m sums → Held n sums
+fewer-held sums h k = record { s = omega (arith, k .s); q = omega (arith, k .q); g = omega (arith, k .g) }
+
+-- each difference of the list is at most 999 in size
+abbrev pub Small : List ℤ → Type 0
+Small [] = Unit {0}
+Small (d ∷ ds) = (natAbs d ≤ 999) × Small ds
+
+pub list-held : (ds : List ℤ) → Small ds → Held (length ds) (sumsOf ds)
+unfolding sumsOf
+list-held [] h = none-held
+list-held (d ∷ ds) h = more-held (sumsOf ds) d (h .0) (list-held ds (h .1))

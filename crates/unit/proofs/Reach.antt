@@ -1,0 +1,103 @@
+-- Every unit that a list of lines leads to keeps to the bounds, and one more line leads to another such unit. Assumes nothing.
+use Prim.Native.Nat.{ℕ, zero, suc, _≤_, _<_}
+use mathlib.Core.Path.{_≡_, refl, sym, ap, _∙_, subst}
+use mathlib.Core.Bool.{Bool, true, false}
+use mathlib.Core.Logic.{_⊎_, inl, inr, ⊎-elim}
+use mathlib.Core.List.{List, [], _∷_, _++_}
+use native.Mathlib.Omega.{arith}
+use borrow.Author.Tests.{eqb-true, eqb-false}
+use lib.Dec.{eqb, lit≤, lit<}
+use Rattle.grounds.specs.Miss.{again}
+use Rattle.line.specs.Read.{readOf}
+use Rattle.line.specs.Refused.{firstRow}
+use Rattle.line.specs.declared.record.Record.{Record}
+use Rattle.line.specs.declared.record.Read.{Read}
+use Rattle.line.specs.declared.record.Read.the-variants.{Whole, Refused as Unread}
+use Rattle.unit.specs.Bounds.{Bounded, LAST}
+use Rattle.unit.specs.Good.{GoodRecord}
+use Rattle.unit.specs.Reached.{after, replay, Reached}
+use Rattle.unit.specs.Sample.{monthOf, missed, differencesOf}
+use Rattle.unit.specs.Set.{SET, emptySet, enteredOf, passesSet, HeldSums}
+use Rattle.unit.specs.Stretch.{anyOver, sampledOf, HeldStretch}
+use Rattle.unit.specs.Take.{newUnit, STUDY, MAINTENANCE, unitRows, missedBy, sampleBy, judgedBy, studyBy, acceptedBy, recordBy, recordOf, readBy, takenOf}
+use Rattle.unit.specs.declared.Unit as U
+use Rattle.unit.specs.declared.set.Set.{Set}
+use Rattle.unit.specs.declared.stretch.Stretch.{Stretch}
+use Rattle.unit.proofs.GoodLaws.{good-record}
+use Rattle.unit.proofs.Held as Sums
+use Rattle.unit.proofs.Room.{sampled-held, no-samples-held}
+use Rattle.unit.proofs.Taking.{Open, is-open, room, capped, entered-held}
+
+-- ---- the bounds, kept by each case
+
+empty-held : HeldSums emptySet
+empty-held = record { moisture = Sums.none-held; protein = Sums.none-held; fat = Sums.none-held; salt = Sums.none-held }
+
+pub bounded-new : Bounded newUnit
+bounded-new = record { lines = lit< tt; sums = empty-held; stretch = no-samples-held; miss = lit≤ tt }
+
+month-le : (r : Record) → GoodRecord r → monthOf r ≤ LAST
+month-le r g = omega (arith, g .late, g .december)
+
+missed-kept : (b : Bool) (u : U.Unit) (m : ℕ) → m ≤ LAST → Bounded u → Bounded (missedBy b u m .unit)
+missed-kept true u m h k = record { lines = k .lines; sums = k .sums; stretch = k .stretch; miss = h }
+missed-kept false u m h k = record { lines = k .lines; sums = k .sums; stretch = k .stretch; miss = h }
+
+sample-kept : (b : Bool) (u : U.Unit) (m : ℕ) (s : Stretch) → HeldStretch s → Bounded u → Bounded (sampleBy b u m s .unit)
+sample-kept true u m s h k = record { lines = k .lines; sums = k .sums; stretch = h; miss = k .miss }
+sample-kept false u m s h k = record { lines = k .lines; sums = k .sums; stretch = h; miss = k .miss }
+
+judged-kept : (b : Bool) (u : U.Unit) (m : ℕ) → Bounded u → Bounded (judgedBy b u m .unit)
+judged-kept true u m k = record { lines = lit< tt; sums = empty-held; stretch = no-samples-held; miss = lit≤ tt }
+judged-kept false u m k = record { lines = lit< tt; sums = empty-held; stretch = k .stretch; miss = k .miss }
+
+study-kept : (b : Bool) (u : U.Unit) (m : ℕ) (s : Set) → eqb (s .lines) SET ≡ b → s .lines ≤ SET → HeldSums s → Bounded u → Bounded (studyBy b u m s .unit)
+study-kept true u m s e l h k = judged-kept (passesSet s) u m k
+study-kept false u m s e l h k = record { lines = less (s .lines) l (eqb-false (s .lines) SET e); sums = h; stretch = k .stretch; miss = k .miss }
+  where
+    less : (n : ℕ) → n ≤ SET → (n ≡ SET → ⊥) → n < SET
+    less n a b = omega arith
+
+accepted-kept : (a b : Bool) (u : U.Unit) (r : Record) → eqb (r .kind) STUDY ≡ a → missed r ≡ b → Open u r → GoodRecord r → Bounded u → Bounded (acceptedBy a b u r .unit)
+accepted-kept true b u r p q o g k =
+    let s = enteredOf (u .set) (differencesOf r) in
+    study-kept (eqb (s .lines) SET) u (monthOf r) s refl (k .lines) (entered-held (u .set) (differencesOf r) (k .sums) (capped r)) k
+accepted-kept false true u r p q o g k = missed-kept (again (u .misses .last) (monthOf r)) u (monthOf r) (month-le r g) k
+accepted-kept false false u r p q o g k =
+    let s = sampledOf (u .stretch) (r .year) (differencesOf r) in
+    sample-kept (anyOver s) u (monthOf r) s (sampled-held (u .stretch) (r .year) (differencesOf r) (k .stretch) (room u r o kind q) (capped r)) k
+  where
+    kind : r .kind ≡ MAINTENANCE
+    kind = ⊎-elim (λ h. h) (λ h. absurd (eqb-false (r .kind) STUDY p h)) (g .kind)
+
+record-kept : (u : U.Unit) (r : Record) → GoodRecord r → Bounded u → Bounded (recordOf u r .unit)
+unfolding recordOf
+record-kept u r g k = go (firstRow (unitRows u r)) refl
+  where
+    go : (n : ℕ) → firstRow (unitRows u r) ≡ n → Bounded (recordBy n u r .unit)
+    go zero e = accepted-kept (eqb (r .kind) STUDY) (missed r) u r refl refl (is-open u r e) g k
+    go (suc n) e = k
+
+pub bounded-take : (u : U.Unit) (line : List ℕ) → Bounded u → Bounded (takenOf u line .unit)
+unfolding takenOf
+bounded-take u line k = go (readOf line) refl
+  where
+    go : (a : Read) → readOf line ≡ a → Bounded (readBy u a .unit)
+    go (Unread n) e = k
+    go (Whole r) e = record-kept u r (good-record line r e) k
+
+bounded-after : (u : U.Unit) (ls : List (List ℕ)) → Bounded u → Bounded (after u ls)
+bounded-after u [] k = k
+bounded-after u (l ∷ ls) k = bounded-after (takenOf u l .unit) ls (bounded-take u l k)
+
+pub reached-bounded : (u : U.Unit) → Reached u → Bounded u
+reached-bounded u r = subst Bounded (r .1) (bounded-after newUnit (r .0) bounded-new)
+
+-- ---- one more line
+
+after-more : (u : U.Unit) (ls : List (List ℕ)) (l : List ℕ) → after u (ls ++ l ∷ []) ≡ takenOf (after u ls) l .unit
+after-more u [] l = refl
+after-more u (k ∷ ls) l = after-more (takenOf u k .unit) ls l
+
+pub reached-more : (u : U.Unit) (l : List ℕ) → Reached u → Reached (takenOf u l .unit)
+reached-more u l r = (r .0 ++ l ∷ [], after-more newUnit (r .0) l ∙ ap (λ (v : U.Unit). takenOf v l .unit) (r .1))

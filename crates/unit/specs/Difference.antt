@@ -1,0 +1,96 @@
+-- Document 01, "Standardizing value and difference", from the mean to the standardizing value and the difference.
+use Prim.Native.Nat.{ℕ, suc, _+_, _*_, _/_, _%_, _^_, _≤_, min}
+use mathlib.Core.Bool.{Bool, cond, _&&_}
+use mathlib.Core.List.{[], _∷_}
+use lib.IntN.{ℤ, pos, negsuc, negℤ, _-ℤ_}
+use lib.Dec.{eqb, leb, ltb}
+use lib.ListN.{getD}
+use Rattle.line.specs.Refused.{MOST, classOf, isDry}
+use Rattle.unit.specs.declared.coefficient.Power.{Power}
+use Rattle.unit.specs.declared.coefficient.Power.the-variants.{Constant, P, Q}
+use Rattle.unit.specs.declared.coefficient.Coefficient.{Coefficient}
+use Rattle.unit.specs.declared.difference.Difference.{Difference}
+use Rattle.unit.specs.Largest.{root}
+
+-- the protein power for a mean of t tenths of a percent: the largest whole p with p^20 ≤ t^13 × 10^67
+abbrev pub powered : ℕ → ℕ
+powered t = t ^ 13 * 10 ^ 67
+
+abbrev pub powerOf : ℕ → ℕ
+powerOf t = root 18 20 (powered t)
+
+-- for a mean of m hundredths, the largest whole q with q^4 ≤ m × 10^14
+abbrev pub rooted : ℕ → ℕ
+rooted m = m * 10 ^ 14
+
+abbrev pub rootOf : ℕ → ℕ
+rootOf m = root 15 4 (rooted m)
+
+-- a / b to the nearest whole, halves up
+abbrev pub nearest : ℕ → ℕ → ℕ
+nearest a b = (2 * a + b) / (2 * b)
+
+-- T is the mean in tenths of a percent
+abbrev pub tenthsOf : ℕ → ℕ
+tenthsOf m = nearest m 10
+
+-- k in thousandths, and what it is multiplied by: `Constant`, the protein power `P`, or `Q`, the q above
+infix 3 _times_
+abbrev pub _times_ : ℕ → Power → Coefficient
+k times p = record { thousandths = k; power = p }
+
+-- moisture: k by class 500, 710, 570, 570; constant
+abbrev pub moisture : ℕ → Coefficient
+moisture class = getD (500 ∷ 710 ∷ 570 ∷ 570 ∷ []) class 0 times Constant
+
+abbrev pub protein : Coefficient
+protein = 60 times P
+
+-- fat: k = 260 for m below 1250, else 300; ground beef 350
+unfoldable pub fat : ℕ → ℕ → Coefficient
+fat class m = cond (eqb class 1) (350 times Q) (cond (ltb m 1250) (260 times Q) (300 times Q))
+
+-- salt: k = 127 constant for m below 100; from 100 on with q, but bit 7 with m at least 400 gives k = 220 constant
+unfoldable pub salt : Bool → ℕ → Coefficient
+salt dry m = cond (ltb m 100) (127 times Constant) (cond (leb 400 m && dry) (220 times Constant) (127 times Q))
+
+-- analytes are numbered moisture 0, protein 1, fat 2, salt 3
+unfoldable pub coefficientFor : ℕ → Bool → ℕ → ℕ → Coefficient
+coefficientFor class dry analyte m =
+    cond (eqb analyte 0) (moisture class) (cond (eqb analyte 1) protein (cond (eqb analyte 2) (fat class m) (salt dry m)))
+
+abbrev pub coefficientOf : ℕ → ℕ → ℕ → Coefficient
+coefficientOf product = coefficientFor (classOf product) (isDry product)
+
+-- the value s = k × p, in ten-millionths of a percent
+abbrev pub powerFor : Power → ℕ → ℕ
+powerFor Constant m = 10000
+powerFor P m = powerOf (tenthsOf m)
+powerFor Q m = rootOf m
+
+abbrev pub valueBy : Coefficient → ℕ → ℕ
+valueBy c m = c .thousandths * powerFor (c .power) m
+
+abbrev pub valueOf : ℕ → ℕ → ℕ → ℕ
+valueOf product analyte m = valueBy (coefficientOf product analyte m) m
+
+-- "Refused", row 6, the means of valid lines: at most a hundred percent; protein from 5, fat from 1, ground beef's fat from 1250
+unfoldable pub leastMean : ℕ → ℕ → ℕ
+leastMean class analyte = cond (eqb analyte 1) 5 (cond (eqb analyte 2) (cond (eqb class 1) 1250 1) 0)
+
+pub record GoodMean (class analyte m : ℕ) : Type 0 where
+  pub least : leastMean class analyte ≤ m
+  pub most : m ≤ MOST
+
+-- h is the reading minus the mean, in hundredths
+abbrev pub distance : ℕ → ℕ → ℤ
+distance reading mean = pos reading -ℤ pos mean
+
+-- the size of the standardized difference, in tenths: |h| × 1,000,000 / s, capped at 999
+abbrev pub sizeOf : ℕ → ℕ → ℕ
+sizeOf size s = min 999 (nearest (size * 1000000) s)
+
+-- The standardized difference d, which document 01 coins: that size with the sign of h. Halves of the size go up, so those of d go away from 0.
+abbrev pub differenceOf : ℤ → ℕ → Difference
+differenceOf (pos n) s = record { tenths = pos (sizeOf n s) }
+differenceOf (negsuc n) s = record { tenths = negℤ (pos (sizeOf (suc n) s)) }

@@ -1,0 +1,24 @@
+-- Document 01, "The program": the two bytes of an event, the event byte and the number byte. Elsewhere the number is 00.
+use Prim.Native.Nat.{ℕ}
+use Rattle.unit.specs.declared.event.Event.{Event}
+use Rattle.unit.specs.declared.event.Event.the-variants.{Refused, Sample, Missed, UnderWay, Passed, Failed, ByCharts, ByMisses}
+
+abbrev pub eventByte : Event → ℕ
+eventByte (Refused n) = 0
+eventByte Sample = 1
+eventByte Missed = 2
+eventByte (UnderWay n) = 3
+eventByte Passed = 4
+eventByte Failed = 5
+eventByte ByCharts = 6
+eventByte ByMisses = 7
+
+abbrev pub numberByte : Event → ℕ
+numberByte (Refused n) = n
+numberByte Sample = 0
+numberByte Missed = 0
+numberByte (UnderWay n) = n
+numberByte Passed = 0
+numberByte Failed = 0
+numberByte ByCharts = 0
+numberByte ByMisses = 0

@@ -1,0 +1,18 @@
+-- The one premise of a contract: a unit is one that our calls made. Some list of lines leads to it from the new one.
+use Prim.Native.Nat.{ℕ}
+use mathlib.Core.Path.{_≡_}
+use mathlib.Core.List.{List, [], _∷_}
+use Rattle.unit.specs.Take.{newUnit, takenOf}
+use Rattle.unit.specs.declared.Unit as U
+
+-- the unit after further lines
+abbrev pub after : U.Unit → List (List ℕ) → U.Unit
+after u [] = u
+after u (l ∷ ls) = after (takenOf u l .unit) ls
+
+-- the unit after the lines given to a new one
+abbrev pub replay : List (List ℕ) → U.Unit
+replay ls = after newUnit ls
+
+abbrev pub Reached : U.Unit → Type 0
+Reached u = (ls : List (List ℕ)) × (replay ls ≡ u)

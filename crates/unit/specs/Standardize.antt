@@ -1,0 +1,37 @@
+-- One reading on its own: document 01's rows 5 to 7 of "Refused", else its standardizing value, difference and contributions.
+use Prim.Native.Nat.{ℕ}
+use mathlib.Core.Bool.{Bool, cond, _||_}
+use lib.IntN.{ℤ}
+use lib.Dec.{ltb}
+use Rattle.line.specs.Refused.{PRODUCT, MEAN, READING, MOST, classOf, productRow}
+use Rattle.unit.specs.declared.contribution.Contributions.{Contributions}
+use Rattle.unit.specs.declared.standardize.Row.{Row}
+use Rattle.unit.specs.declared.standardize.Standardized.{Standardized}
+use Rattle.unit.specs.declared.standardize.Standardized.the-variants.{Refused, Given}
+use Rattle.unit.specs.Difference.{leastMean, valueOf, distance, differenceOf}
+use Rattle.unit.specs.Contribution.{food, contributionsOf}
+
+-- row 6: a mean that no valid line has
+unfoldable pub badMean : ℕ → ℕ → ℕ → Bool
+badMean class analyte m = ltb m (leastMean class analyte) || ltb MOST m
+
+-- row 7: a percent above 100.0 is not accepted
+abbrev pub badReading : ℕ → Bool
+badReading reading = ltb MOST reading
+
+abbrev pub rowBy : ℕ → ℤ → Contributions → Row
+rowBy s d c = record { value = s; difference = d; p = c .p; n = c .n; v = c .v; d = c .d }
+
+abbrev pub rowFrom : ℕ → ℤ → Row
+rowFrom s d = rowBy s d (contributionsOf food d)
+
+abbrev pub rowOf : ℕ → ℕ → ℕ → ℕ → Row
+rowOf product analyte mean reading =
+    let s = valueOf product analyte mean in rowFrom s (differenceOf (distance reading mean) s .tenths)
+
+-- the first row that fits; an analyte that no line has counts as row 5
+unfoldable pub standardizedOf : ℕ → ℕ → ℕ → ℕ → Standardized
+standardizedOf product analyte mean reading =
+    cond (productRow product || ltb 3 analyte) (Refused PRODUCT)
+    (cond (badMean (classOf product) analyte mean) (Refused MEAN)
+    (cond (badReading reading) (Refused READING) (Given (rowOf product analyte mean reading))))

@@ -1,0 +1,103 @@
+// A chart and how a sample moves it. Document 01, "Stretch and run".
+use crate::contribution::Contributions;
+use crate::contribution::LIMIT_D;
+use crate::contribution::LIMIT_V;
+use crate::contribution::Systematic;
+ghost use mathlib.Core.Path.{_≡_};
+ghost use Prim.Native.Nat.{_≤_};
+ghost use lib.IntN.{natAbs};
+ghost use Rattle.grounds.specs.Chart.{nextValue, nextFirst};
+ghost use Rattle.unit.specs.Charts.{chartOf, chartsOf, overOf, Roomy, Moderate, AllRoomy, AllModerate};
+
+// A chart's value and the first sample of the run shown.
+pub struct Chart {
+    pub value: i32,
+    pub first: u16,
+}
+
+// The four charts of one analyte.
+pub struct Charts {
+    pub p: Chart,
+    pub n: Chart,
+    pub v: Chart,
+    pub d: Chart,
+}
+
+// The value after a contribution `x`, where `before` samples of the stretch stand before this one.
+pub fn next_value(before: u16, value: i32, x: i32) -> i32
+    requires { ⌜ Roomy value × Moderate x ⌝ }
+    ensures { λ r. ⌜ r ≡ nextValue before value x ⌝ }
+{
+    if before == 0 {
+        x
+    } else if value + x < 0 {
+        0
+    } else {
+        value + x
+    }
+}
+
+// The first sample of the run shown after this sample.
+pub fn next_first(before: u16, value: i32, first: u16) -> u16
+    requires { ⌜ before ≤ 998 ⌝ }
+    ensures { λ r. ⌜ r ≡ nextFirst before value first ⌝ }
+{
+    if before < 2 {
+        1
+    } else if value <= 0 {
+        before + 1
+    } else {
+        first
+    }
+}
+
+pub fn step(chart: Chart, before: u16, x: i32) -> Chart
+    requires { ⌜ (before ≤ 998) × Roomy (chart .value) × Moderate x ⌝ }
+    ensures { λ r. ⌜ r ≡ chartOf chart before x ⌝ }
+{
+    Chart {
+        value: next_value(before, chart.value, x),
+        first: next_first(before, chart.value, chart.first),
+    }
+}
+
+// The four charts of an analyte move together.
+pub fn step_all(charts: Charts, before: u16, x: Contributions) -> Charts
+    requires { ⌜ (before ≤ 998) × AllRoomy charts × AllModerate x ⌝ }
+    ensures { λ r. ⌜ r ≡ chartsOf charts before x ⌝ }
+{
+    let p = charts.p;
+    let n = charts.n;
+    let v = charts.v;
+    let d = charts.d;
+    Charts {
+        p: step(p, before, x.p),
+        n: step(n, before, x.n),
+        v: step(v, before, x.v),
+        d: step(d, before, x.d),
+    }
+}
+
+// Which of an analyte's charts are over.
+pub struct Over {
+    pub p: bool,
+    pub n: bool,
+    pub v: bool,
+    pub d: bool,
+}
+
+pub fn find_over(charts: Charts, c: Systematic) -> Over
+    ensures { λ r. ⌜ r ≡ overOf charts c ⌝ }
+{
+    let p = charts.p;
+    let n = charts.n;
+    let v = charts.v;
+    let d = charts.d;
+    let limit = c.limit as i32;
+    Over {
+        p: p.value > limit,
+        n: n.value > limit,
+        v: v.value > LIMIT_V,
+        d: d.value > LIMIT_D,
+    }
+}

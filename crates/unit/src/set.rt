@@ -1,0 +1,66 @@
+// A study set under way.
+use crate::sample::Differences;
+use crate::study::Sums;
+use crate::study::add;
+use crate::study::empty;
+use crate::study::set_passes;
+ghost use mathlib.Core.Path.{_≡_};
+ghost use Prim.Native.Nat.{_<_};
+ghost use Rattle.unit.specs.Set.{SET, emptySet, enteredOf, passesSet, HeldSums};
+ghost use Rattle.unit.specs.Stretch.{Capped};
+
+// The sums of the four analytes over the set's lines so far.
+pub struct Set {
+    pub lines: u8,
+    pub moisture: Sums,
+    pub protein: Sums,
+    pub fat: Sums,
+    pub salt: Sums,
+}
+
+pub fn empty_set() -> Set
+    ensures { λ r. ⌜ r ≡ emptySet ⌝ }
+{
+    let none = empty();
+    Set {
+        lines: 0,
+        moisture: none,
+        protein: none,
+        fat: none,
+        salt: none,
+    }
+}
+
+// One more line of a set that is not full.
+pub fn entered(s: Set, d: Differences) -> Set
+    requires { ⌜ (s .lines < SET) × HeldSums s × Capped d ⌝ }
+    ensures { λ r. ⌜ r ≡ enteredOf s d ⌝ }
+{
+    let moisture = s.moisture;
+    let protein = s.protein;
+    let fat = s.fat;
+    let salt = s.salt;
+    let dm = d.moisture;
+    let dp = d.protein;
+    let df = d.fat;
+    let ds = d.salt;
+    Set {
+        lines: s.lines + 1,
+        moisture: add(moisture, dm),
+        protein: add(protein, dp),
+        fat: add(fat, df),
+        salt: add(salt, ds),
+    }
+}
+
+// Whether a full set passes.
+pub fn passes_set(s: Set) -> bool
+    requires { ⌜ (s .lines ≡ SET) × HeldSums s ⌝ }
+    ensures { λ r. ⌜ r ≡ passesSet s ⌝ }
+{
+    let moisture = s.moisture;
+    let protein = s.protein;
+    let fat = s.fat;
+    let salt = s.salt;
+    set_passes(moisture, protein, fat, salt)
+}

@@ -1,0 +1,82 @@
+// One reading on its own: its standardizing value, its difference and what it contributes.
+use crate::contribution::FOOD;
+use crate::contribution::contribute;
+use crate::difference::standardized;
+use crate::difference::value;
+use line::product_row;
+use line::refusal::MEAN;
+use line::refusal::PRODUCT;
+use line::refusal::READING;
+ghost use mathlib.Core.Path.{_≡_};
+ghost use Prim.Native.Nat.{_<_};
+ghost use Rattle.line.specs.Refused.{classOf};
+ghost use Rattle.unit.specs.Difference.{leastMean, GoodMean};
+ghost use Rattle.unit.specs.Standardize.{rowOf, standardizedOf};
+
+// In ten-millionths of a percent; in tenths; in tenths, and for `d` in ten-thousandths.
+pub struct Row {
+    pub value: u32,
+    pub difference: i32,
+    pub p: i32,
+    pub n: i32,
+    pub v: i32,
+    pub d: i32,
+}
+
+pub enum Standardized {
+    Refused(u8),
+    Given(Row),
+}
+
+// The highest mean and the highest reading, in hundredths of a percent.
+const HIGHEST: u16 = 10_000;
+
+// The least mean of an analyte that a valid line of the class has.
+fn least_mean(class: u8, analyte: u8) -> u16
+    ensures { λ r. ⌜ r ≡ leastMean class analyte ⌝ }
+{
+    match analyte {
+        1 => 5,
+        2 => { if class == 1 { 1250 } else { 1 } }
+        _ => 0,
+    }
+}
+
+// The row of a mean that a valid line can have.
+fn fill(product: u8, analyte: u8, mean: u16, reading: u16) -> Row
+    requires { ⌜ (analyte < 4) × GoodMean (classOf product) analyte mean ⌝ }
+    ensures { λ r. ⌜ r ≡ rowOf product analyte mean reading ⌝ }
+{
+    let s = value(product, analyte, mean);
+    let d = standardized(reading as u32, mean as u32, s);
+    let c = contribute(FOOD, d);
+    Row {
+        value: s,
+        difference: d.tenths,
+        p: c.p,
+        n: c.n,
+        v: c.v,
+        d: c.d,
+    }
+}
+
+pub fn standardize(product: u8, analyte: u8, mean: u16, reading: u16) -> Standardized
+    ensures { λ r. ⌜ r ≡ standardizedOf product analyte mean reading ⌝ }
+{
+    if product_row(product) {
+        return Standardized::Refused(PRODUCT);
+    }
+    if analyte > 3 {
+        return Standardized::Refused(PRODUCT);
+    }
+    if mean < least_mean(product & 3, analyte) {
+        return Standardized::Refused(MEAN);
+    }
+    if mean > HIGHEST {
+        return Standardized::Refused(MEAN);
+    }
+    if reading > HIGHEST {
+        return Standardized::Refused(READING);
+    }
+    Standardized::Given(fill(product, analyte, mean, reading))
+}
