@@ -1,0 +1,3 @@
+-- The table of examples.
+pub mod Table
+pub mod Witness

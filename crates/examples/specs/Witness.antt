@@ -1,0 +1,158 @@
+-- The claim is not empty: it is applied to three lists of real lines, computed. On `byRun` a run opens probation, on `byMisses` two misses do, and
+-- on `calm` nothing does. Each list starts with a study set that passes.
+use Prim.Native.Nat.{ℕ, _<_}
+use mathlib.Core.Path.{_≡_, refl, sym}
+use mathlib.Core.Bool.{Bool, true, false, true≢false}
+use mathlib.Core.Logic.{_⊎_}
+use mathlib.Core.List.{List, [], _∷_, _++_, map}
+use lib.Dec.{lit<}
+use lib.Ieee.{ofBits}
+use lib.IntN.{pos, negℤ}
+use lib.ListN.{replicate}
+use Rattle.grounds.specs.Chart.{nextValue, nextFirst}
+use Rattle.grounds.specs.Claim.{TwoMisses, SomeRun, RightRun}
+use Rattle.grounds.specs.Entry.{Entry, misses, stretch, onChart}
+use Rattle.line.specs.Digits.{isDigit, digitValue, digitOf, areDigits, bytesOf, digitsOf}
+use Rattle.line.specs.Fields.{PERCENT, LOST, bytesIn, readingOf}
+use Rattle.line.specs.Percent.{accepted, hundredthsOf, amountOf}
+use Rattle.line.specs.Read.{readBy, readOf}
+use Rattle.line.specs.Refused.{firstRow, kindRow, dateRow, productRow, meanRow, readingRow}
+use Rattle.line.specs.declared.fields.Tagged.{Tagged}
+use Rattle.unit.specs.Claim.{history, since, openedIn, CHARTS, limit, entriesOf, shownAt, ClaimOf}
+use Rattle.unit.specs.Contribution.{incrementOf, variableOf, measureOf}
+use Rattle.unit.specs.Difference.{fat, salt, coefficientFor}
+use Rattle.unit.specs.Largest.{rootFrom}
+use Rattle.unit.specs.Reached.{replay}
+use Rattle.unit.specs.Status.{statusOf}
+use Rattle.unit.specs.Study.{passesOf}
+use Rattle.unit.specs.Take.{MAINTENANCE, STUDY, recordOf, takenOf}
+use Rattle.unit.proofs.Claimed.{claim-holds}
+
+-- ---- the lines
+
+abbrev pub percent : ℕ → Tagged
+percent bits = record { tag = PERCENT; bits = bits }
+
+-- readings of moisture: 60.00, which is the mean, then 59.05 and 60.77 percent, and a lost one
+abbrev pub atMean : Tagged
+atMean = percent 0x42700000
+
+abbrev pub below : Tagged
+below = percent 0x426c3333
+
+abbrev pub above : Tagged
+above = percent 0x4273147b
+
+abbrev pub lost : Tagged
+lost = record { tag = LOST; bits = 0 }
+
+-- A line of class 2 by its kind, year, month, days and reading of moisture. The means are 60.00, 18.00, 15.00 and 2.00 percent, and so are the
+-- other readings.
+abbrev pub lineOf : ℕ → ℕ → ℕ → ℕ → Tagged → List ℕ
+lineOf kind year month days moisture = digitsOf (bytesIn (record {
+  kind = kind;
+  year = year;
+  month = month;
+  days = days;
+  product = 2;
+  means = record { moisture = 6000; protein = 1800; fat = 1500; salt = 200 };
+  moisture = moisture;
+  protein = percent 0x41900000;
+  fat = percent 0x41700000;
+  salt = percent 0x40000000;
+}))
+
+-- document 01's own line
+abbrev pub study : List ℕ
+study = lineOf STUDY 2012 3 10 atMean
+
+abbrev pub studySet : List (List ℕ)
+studySet = replicate 36 study
+
+-- samples of 2013, one in each of the months
+abbrev pub samples : List ℕ → Tagged → List (List ℕ)
+samples months moisture = map (λ (m : ℕ). lineOf MAINTENANCE 2013 m 10 moisture) months
+
+-- ---- the lists
+
+-- one low sample, then seven high ones
+abbrev pub byRun : List (List ℕ)
+byRun = studySet ++ (samples (1 ∷ []) below ++ samples (2 ∷ 3 ∷ 4 ∷ 5 ∷ 6 ∷ 7 ∷ 8 ∷ []) above)
+
+-- a sample; a result after 22 days in November 2012; a sample of 2013; and a lost reading in February
+abbrev pub byMisses : List (List ℕ)
+byMisses = studySet
+    ++ (lineOf MAINTENANCE 2012 10 10 atMean
+    ∷ lineOf MAINTENANCE 2012 11 22 atMean
+    ∷ lineOf MAINTENANCE 2013 1 10 atMean
+    ∷ lineOf MAINTENANCE 2013 2 10 lost
+    ∷ [])
+
+-- a year at the mean
+abbrev pub calm : List (List ℕ)
+calm = studySet ++ samples (1 ∷ 2 ∷ 3 ∷ 4 ∷ 5 ∷ 6 ∷ 7 ∷ 8 ∷ 9 ∷ 10 ∷ 11 ∷ 12 ∷ []) atMean
+
+-- ---- what is read off a list
+
+abbrev pub entries : List (List ℕ) → List Entry
+entries ls = entriesOf (since (history ls))
+
+abbrev pub opened : List (List ℕ) → Bool
+opened ls = openedIn (since (history ls))
+
+-- the status line: stage, samples in the stretch, mask and misses
+pub record Status (ls : List (List ℕ)) (stage samples mask : ℕ) (misses : Bool) : Type 0 where
+  pub stage-is : statusOf (replay ls) .stage ≡ stage
+  pub samples-are : statusOf (replay ls) .samples ≡ samples
+  pub mask-is : statusOf (replay ls) .mask ≡ mask
+  pub misses-are : statusOf (replay ls) .misses ≡ misses
+
+-- ---- what holds of them
+
+pub record Witness : Type 0 where
+  -- the line that document 01 prints, byte for byte
+  pub line-is : study
+      ≡ digitsOf
+      (0x02 ∷ 0x07 ∷ 0xdc ∷ 0x03 ∷ 0x0a ∷ 0x02 ∷ 0x17 ∷ 0x70 ∷ 0x07 ∷ 0x08 ∷ 0x05 ∷ 0xdc ∷ 0x00 ∷ 0xc8 ∷ 0x00 ∷ 0x42 ∷ 0x70 ∷ 0x00 ∷ 0x00 ∷ 0x00 ∷ 0x41 ∷ 0x90 ∷ 0x00 ∷ 0x00 ∷ 0x00 ∷ 0x41 ∷ 0x70 ∷ 0x00 ∷ 0x00 ∷ 0x00 ∷ 0x40 ∷ 0x00 ∷ 0x00 ∷ 0x00 ∷ [])
+  -- Probation is opened, chart 0 (P of moisture) alone is named, and run 3 to 8 is shown with its sum.
+  pub run-opened : opened byRun ≡ true
+  pub run-status : Status byRun 3 8 1 false
+  pub run-row : shownAt (statusOf (replay byRun)) 0 ≡ record { over = true; first = 3; last = 8; value = pos 60 }
+  -- the samples' contributions to that chart
+  pub run-samples : onChart 0 (stretch 2013 (entries byRun)) ≡ negℤ (pos 20) ∷ replicate 7 (pos 10)
+  -- so, by the claim, there is a run over the limit, and the one shown is right
+  pub run-exists : SomeRun limit (entries byRun) 0
+  pub run-right : RightRun CHARTS limit (entries byRun) 0 3 8 (pos 60)
+  -- Probation is opened, and misses alone are named: January does not clear them, and the stretch is new.
+  pub misses-opened : opened byMisses ≡ true
+  pub misses-status : Status byMisses 3 1 0 true
+  pub misses-months : misses (entries byMisses) ≡ 24155 ∷ 24158 ∷ []
+  -- so, by the claim, two of them are near
+  pub misses-near : TwoMisses (entries byMisses)
+  -- Nothing is opened, named or shown.
+  pub calm-opened : opened calm ≡ false
+  pub calm-status : Status calm 2 12 0 false
+  -- so, by the claim, there are no two such misses and no such run on any chart
+  pub calm-holds : ¬ (TwoMisses (entries calm) ⊎ ((c : ℕ) × (c < CHARTS) × SomeRun limit (entries calm) c))
+
+claim-of : (ls : List (List ℕ)) → ClaimOf ls (statusOf (replay ls))
+claim-of ls = claim-holds ls (replay ls) refl
+
+pub witness : Witness
+unfolding isDigit digitValue digitOf areDigits bytesOf digitsOf readingOf accepted hundredthsOf amountOf readBy readOf firstRow kindRow dateRow productRow meanRow readingRow nextValue nextFirst incrementOf variableOf measureOf fat salt coefficientFor rootFrom statusOf passesOf recordOf takenOf ofBits
+witness = record {
+  line-is = refl;
+  run-opened = refl;
+  run-status = record { stage-is = refl; samples-are = refl; mask-is = refl; misses-are = refl };
+  run-row = refl;
+  run-samples = refl;
+  run-exists = claim-of byRun .charts 0 (lit< tt) .0 refl;
+  run-right = claim-of byRun .runs 0 (lit< tt) refl;
+  misses-opened = refl;
+  misses-status = record { stage-is = refl; samples-are = refl; mask-is = refl; misses-are = refl };
+  misses-months = refl;
+  misses-near = claim-of byMisses .misses .0 refl;
+  calm-opened = refl;
+  calm-status = record { stage-is = refl; samples-are = refl; mask-is = refl; misses-are = refl };
+  calm-holds = λ g. true≢false (sym (claim-of calm .opened .1 g));
+}

@@ -1,0 +1,1 @@
+// The table of examples of document 01 stands in specs/; this crate has no functions.
