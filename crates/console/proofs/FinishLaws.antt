@@ -1,0 +1,113 @@
+-- The end of the input: the unended line's answer and the status are what `transcript` has after the answers so far. Assumes nothing.
+use Prim.Native.Nat.{ℕ, suc, _+_, _≤_, _<_}
+use mathlib.Core.Path.{_≡_, sym, ap, _∙_}
+use mathlib.Core.Bool.{Bool, true, false, cond}
+use mathlib.Core.List.{List, [], _∷_, _++_, append-assoc, append-nil}
+use native.Mathlib.Omega.{arith}
+use borrow.Author.Tests.{eq-eqb, ne-eqb, lt-ltb, le-ltb}
+use lib.Dec.{eqb}
+use lib.ListN.{length, take, length-append}
+use lib.Seq.{length-take-le}
+use Rattle.unit.specs.Take.{newUnit, takenOf}
+use Rattle.unit.specs.Reached.{after}
+use Rattle.unit.specs.Status.{statusOf}
+use Rattle.unit.specs.declared.Taken.{Taken}
+use Rattle.unit.specs.declared.Unit as U
+use Rattle.unit.specs.declared.report.Report.{Report}
+use Rattle.console.specs.declared.Console.{Console}
+use Rattle.console.specs.Text.{answerText, statusText}
+use Rattle.console.specs.Lines.{ended, rest, lastLine, linesOf}
+use Rattle.console.specs.Transcript.{answers, textOf, transcript}
+use Rattle.console.specs.Buffer.{over}
+use Rattle.console.specs.Room.{ANSWER, LAST, STATUS}
+use Rattle.console.specs.State.{HELD, pending}
+use Rattle.console.specs.Stands.{Stands}
+use Rattle.console.specs.Finish.{lastUnit, lastText, finalText, finishedOf, finishedBuffer}
+use Rattle.console.proofs.BufferLaws.{over-length, over-over, over-front}
+use Rattle.console.proofs.LineLaws.{after-append, answers-append, taken-cut}
+use Rattle.console.proofs.FeedLaws.{answer-length}
+use Rattle.console.proofs.StatusLaws.{status-length}
+
+module _ (c : Console) where
+  pub last-none : c .held ≡ 0 → (lastUnit c ≡ c .unit) × (lastText c ≡ [])
+  unfolding lastUnit lastText
+  last-none e = let t = eq-eqb (c .held) 0 e in (rw t, rw t)
+
+  pub last-some : (c .held ≡ 0 → ⊥) → (lastUnit c ≡ takenOf (c .unit) (pending c) .unit) × (lastText c ≡ answerText (takenOf (c .unit) (pending c) .event))
+  unfolding lastUnit lastText
+  last-some n = let t = ne-eqb (c .held) 0 n in (rw t, rw t)
+
+  pub last-length : length (lastText c) ≤ ANSWER
+  unfolding lastText
+  last-length = go (eqb (c .held) 0)
+    where
+      go : (b : Bool) → length (cond b [] (answerText (takenOf (c .unit) (pending c) .event))) ≤ ANSWER
+      go true = omega arith
+      go false = omega (arith, answer-length (takenOf (c .unit) (pending c) .event))
+
+  -- what is held is the unended line, if there is one
+  last-is : (p : List ℕ) → c .held ≤ HELD → length (c .bytes) ≡ HELD → pending c ≡ take HELD p
+      → (lastText c ≡ answers (c .unit) (lastLine p)) × (lastUnit c ≡ after (c .unit) (lastLine p))
+  last-is [] f s e =
+      let long : c .held ≡ 0 = sym (length-take-le (c .held) (c .bytes) (omega arith)) ∙ ap length e in
+      let none = last-none long in
+      (none .1, none .0)
+  last-is (x ∷ p) f s e =
+      let long : c .held ≡ suc (length (take 68 p)) = sym (length-take-le (c .held) (c .bytes) (omega arith)) ∙ ap length e in
+      let some = last-some (λ (z : c .held ≡ 0). omega arith) in
+      let same : takenOf (c .unit) (pending c) ≡ takenOf (c .unit) (x ∷ p) = ap (takenOf (c .unit)) e ∙ taken-cut (c .unit) (x ∷ p) in (
+        some .1 ∙ ap (λ (t : Taken). answerText (t .event)) same ∙ sym (append-nil (answerText (takenOf (c .unit) (x ∷ p) .event))),
+        some .0 ∙ ap (λ (t : Taken). t .unit) same,
+      )
+
+  pub final-transcript : (input : List ℕ) → Stands c input → textOf input ++ finalText c ≡ transcript input
+  final-transcript input s =
+      let u = after newUnit (ended input) in
+      let last = lastLine (rest input) in
+      let here = last-is (rest input) (s .fits) (s .size) (s .part) in
+      let text : lastText c ≡ answers u last = here .0 ∙ ap (λ (v : U.Unit). answers v last) (s .unit) in
+      let unit : lastUnit c ≡ after newUnit (linesOf input) =
+      here .1 ∙ ap (λ (v : U.Unit). after v last) (s .unit) ∙ sym (after-append newUnit (ended input) last) in
+      sym (append-assoc (textOf input) (lastText c) (statusText (statusOf (lastUnit c))))
+      ∙ ap (λ (t : List ℕ). textOf input ++ t ++ statusText (statusOf (lastUnit c))) text
+      ∙ ap (λ (t : List ℕ). t ++ statusText (statusOf (lastUnit c))) (sym (answers-append newUnit (ended input) last))
+      ∙ ap (λ (v : U.Unit). answers newUnit (linesOf input) ++ statusText (statusOf v)) unit
+
+-- ---- what `finish` hands back
+
+module _ (c : Console) (output : List ℕ) where
+  abbrev pub Finished : ℕ → List ℕ → Type 0
+  Finished r exit =
+      (r ≡ finishedOf c (length output))
+      × ((exit ≡ finishedBuffer c output) × ((r ≤ length exit) × ((input : List ℕ) → Stands c input → LAST ≤ length output → textOf input ++ take r exit ≡ transcript input)))
+
+  pub finished-short : length output < LAST → Finished 0 output
+  finished-short h = let t = lt-ltb (length output) LAST h in (rw t, (rw t, (omega arith, λ input s l. absurd (omega arith))))
+
+  pub last-room : (middle : List ℕ) (w : ℕ) → LAST ≤ length output → w ≡ length (lastText c) → middle ≡ over output 0 (lastText c)
+      → w + STATUS ≤ length middle
+  last-room middle w h e t =
+      rw t (omega (arith, last-length c, over-length output 0 (lastText c) (omega (arith, last-length c))))
+
+  pub finished-whole : (r w : ℕ) (middle exit : List ℕ) (u : U.Unit) (report : Report) → LAST ≤ length output
+      → u ≡ lastUnit c → w ≡ length (lastText c) → middle ≡ over output 0 (lastText c)
+      → report ≡ statusOf u → r ≡ w + length (statusText report) → exit ≡ over middle w (statusText report)
+      → Finished r exit
+  finished-whole r w middle exit u report h e p t q n x =
+      let text = statusText (statusOf (lastUnit c)) in
+      let whole : r ≡ length (finalText c) = rw (length-append (lastText c) text, n, p, q, e) in
+      let here : w ≡ 0 + length (lastText c) = omega arith in
+      let over-all : exit ≡ over output 0 (finalText c) =
+      rw (x, t, here, q, e) (over-over output 0 (lastText c) text (omega (arith, last-length c, status-length (statusOf (lastUnit c))))) in
+      let fits : 0 + length (finalText c) ≤ length output =
+      rw (length-append (lastText c) text) (omega (arith, last-length c, status-length (statusOf (lastUnit c)))) in
+      let no = le-ltb (length output) LAST h in (
+        rw no whole,
+        (
+          rw no over-all,
+          (
+            rw (over-all, whole) (omega (arith, over-length output 0 (finalText c) fits, fits)),
+            λ input s l. rw (whole, over-all, over-front output (finalText c)) (final-transcript c input s),
+          ),
+        ),
+      )

@@ -1,0 +1,96 @@
+-- One more byte of the input, and one more line of the unit. Assumes nothing.
+use Prim.Native.Nat.{ℕ, _<_}
+use mathlib.Core.Path.{_≡_, refl, sym, ap, _∙_}
+use mathlib.Core.Bool.{Bool, true, false, cond}
+use mathlib.Core.Logic.{⊎-elim}
+use mathlib.Core.List.{List, [], _∷_, _++_, append-assoc}
+use native.Mathlib.Omega.{arith}
+use borrow.Author.Tests.{leb-true, leb-false}
+use lib.Dec.{leb, eqb}
+use lib.ListN.{length, take}
+use lib.Seq.{take-all, length-take-le}
+use Rattle.laws.proofs.Bools.{either}
+use Rattle.line.specs.Read.{readOf}
+use Rattle.line.proofs.ReadLaws.{refused-length}
+use Rattle.unit.specs.Take.{takenOf, readBy}
+use Rattle.unit.specs.Reached.{after}
+use Rattle.unit.specs.declared.Unit as U
+use Rattle.console.specs.Text.{NEWLINE, answerText}
+use Rattle.console.specs.Lines.{endedAfter, restAfter}
+use Rattle.console.specs.Transcript.{answers}
+use Rattle.console.specs.State.{HELD}
+
+-- ---- a newline ends the line; any other byte is one more of it
+
+pub ended-newline : (p xs : List ℕ) (x : ℕ) → eqb x NEWLINE ≡ true → endedAfter p (xs ++ x ∷ []) ≡ endedAfter p xs ++ restAfter p xs ∷ []
+unfolding endedAfter restAfter
+ended-newline p [] x e = rw e
+ended-newline p (y ∷ xs) x e = go (ended-newline [] xs x e) (ended-newline (p ++ y ∷ []) xs x e) (eqb y NEWLINE)
+  where
+    go : endedAfter [] (xs ++ x ∷ []) ≡ endedAfter [] xs ++ restAfter [] xs ∷ []
+        → endedAfter (p ++ y ∷ []) (xs ++ x ∷ []) ≡ endedAfter (p ++ y ∷ []) xs ++ restAfter (p ++ y ∷ []) xs ∷ []
+        → (b : Bool)
+        → cond b (p ∷ endedAfter [] (xs ++ x ∷ [])) (endedAfter (p ++ y ∷ []) (xs ++ x ∷ []))
+        ≡ cond b (p ∷ endedAfter [] xs) (endedAfter (p ++ y ∷ []) xs) ++ cond b (restAfter [] xs) (restAfter (p ++ y ∷ []) xs) ∷ []
+    go f g true = rw f
+    go f g false = g
+
+pub rest-newline : (p xs : List ℕ) (x : ℕ) → eqb x NEWLINE ≡ true → restAfter p (xs ++ x ∷ []) ≡ []
+unfolding restAfter
+rest-newline p [] x e = rw e
+rest-newline p (y ∷ xs) x e = go (rest-newline [] xs x e) (rest-newline (p ++ y ∷ []) xs x e) (eqb y NEWLINE)
+  where
+    go : restAfter [] (xs ++ x ∷ []) ≡ [] → restAfter (p ++ y ∷ []) (xs ++ x ∷ []) ≡ []
+        → (b : Bool) → cond b (restAfter [] (xs ++ x ∷ [])) (restAfter (p ++ y ∷ []) (xs ++ x ∷ [])) ≡ []
+    go f g true = f
+    go f g false = g
+
+pub ended-other : (p xs : List ℕ) (x : ℕ) → eqb x NEWLINE ≡ false → endedAfter p (xs ++ x ∷ []) ≡ endedAfter p xs
+unfolding endedAfter
+ended-other p [] x e = rw e
+ended-other p (y ∷ xs) x e = go (ended-other [] xs x e) (ended-other (p ++ y ∷ []) xs x e) (eqb y NEWLINE)
+  where
+    go : endedAfter [] (xs ++ x ∷ []) ≡ endedAfter [] xs → endedAfter (p ++ y ∷ []) (xs ++ x ∷ []) ≡ endedAfter (p ++ y ∷ []) xs
+        → (b : Bool)
+        → cond b (p ∷ endedAfter [] (xs ++ x ∷ [])) (endedAfter (p ++ y ∷ []) (xs ++ x ∷ []))
+        ≡ cond b (p ∷ endedAfter [] xs) (endedAfter (p ++ y ∷ []) xs)
+    go f g true = rw f
+    go f g false = g
+
+pub rest-other : (p xs : List ℕ) (x : ℕ) → eqb x NEWLINE ≡ false → restAfter p (xs ++ x ∷ []) ≡ restAfter p xs ++ x ∷ []
+unfolding restAfter
+rest-other p [] x e = rw e
+rest-other p (y ∷ xs) x e = go (rest-other [] xs x e) (rest-other (p ++ y ∷ []) xs x e) (eqb y NEWLINE)
+  where
+    go : restAfter [] (xs ++ x ∷ []) ≡ restAfter [] xs ++ x ∷ [] → restAfter (p ++ y ∷ []) (xs ++ x ∷ []) ≡ restAfter (p ++ y ∷ []) xs ++ x ∷ []
+        → (b : Bool)
+        → cond b (restAfter [] (xs ++ x ∷ [])) (restAfter (p ++ y ∷ []) (xs ++ x ∷ []))
+        ≡ cond b (restAfter [] xs) (restAfter (p ++ y ∷ []) xs) ++ x ∷ []
+    go f g true = f
+    go f g false = g
+
+-- ---- lines one after the other
+
+pub after-append : (u : U.Unit) (ls ms : List (List ℕ)) → after u (ls ++ ms) ≡ after (after u ls) ms
+after-append u [] ms = refl
+after-append u (l ∷ ls) ms = after-append (takenOf u l .unit) ls ms
+
+pub answers-append : (u : U.Unit) (ls ms : List (List ℕ)) → answers u (ls ++ ms) ≡ answers u ls ++ answers (after u ls) ms
+answers-append u [] ms = refl
+answers-append u (l ∷ ls) ms =
+    ap (λ (t : List ℕ). answerText (takenOf u l .event) ++ t) (answers-append (takenOf u l .unit) ls ms)
+    ∙ sym (append-assoc (answerText (takenOf u l .event)) (answers (takenOf u l .unit) ls) (answers (after (takenOf u l .unit) ls) ms))
+
+-- ---- a line of 69 bytes or more is answered as its first 69 are: either is refused for its length
+
+read-cut : (l : List ℕ) → HELD < length l → readOf (take HELD l) ≡ readOf l
+read-cut l h =
+    let cut : length (take HELD l) ≡ HELD = length-take-le HELD l (omega arith) in
+    refused-length (take HELD l) (λ e. omega arith) ∙ sym (refused-length l (λ e. omega arith))
+
+pub taken-cut : (u : U.Unit) (l : List ℕ) → takenOf u (take HELD l) ≡ takenOf u l
+unfolding takenOf
+taken-cut u l =
+    ⊎-elim (λ e. ap (λ (m : List ℕ). readBy u (readOf m)) (take-all HELD l (leb-true (length l) HELD e)))
+    (λ e. ap (readBy u) (read-cut l (leb-false (length l) HELD e)))
+    (either (leb (length l) HELD))

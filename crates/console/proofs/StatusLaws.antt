@@ -1,0 +1,98 @@
+-- The lines of the charts: how long they are, and that one more is put behind the others. Assumes nothing.
+use Prim.Native.Nat.{ℕ, zero, suc, _+_, _*_, _/_, _%_, _^_, _≤_, _<_}
+use mathlib.Core.Path.{_≡_, sym, ap, _∙_}
+use mathlib.Core.Bool.{Bool, true, false, cond}
+use mathlib.Core.List.{List, []}
+use native.Mathlib.Numerals.{add-one}
+use native.Mathlib.Omega.{arith}
+use borrow.Author.Tests.{eq-eqb, ne-eqb}
+use lib.ListN.{length, getD, length-append}
+use Rattle.unit.specs.declared.report.Row.{Row}
+use Rattle.unit.specs.declared.report.Report.{Report}
+use Rattle.console.specs.Room.{STATUS, RUNS, RUN}
+use Rattle.console.specs.Buffer.{over}
+use Rattle.console.specs.Text.{lineText, runBytes, isSet, chartText, noRow, runTexts, stageBytes, statusText, CHARTS}
+use Rattle.console.proofs.BufferLaws.{over-none, over-over, over-length, line-length}
+
+pub chart-clear : (mask chart : ℕ) (row : Row) → (mask / 2 ^ chart % 2 ≡ 1 → ⊥) → chartText mask chart row ≡ []
+unfolding chartText
+chart-clear mask chart row h = rw (ne-eqb (mask / 2 ^ chart % 2) 1 h)
+
+pub chart-set : (mask chart : ℕ) (row : Row) → mask / 2 ^ chart % 2 ≡ 1 → chartText mask chart row ≡ lineText (runBytes chart row)
+unfolding chartText
+chart-set mask chart row h = rw (eq-eqb (mask / 2 ^ chart % 2) 1 h)
+
+pub chart-length : (mask chart : ℕ) (row : Row) → length (chartText mask chart row) ≤ RUN
+unfolding chartText
+chart-length mask chart row = go (isSet mask chart)
+  where
+    go : (b : Bool) → length (cond b (lineText (runBytes chart row)) []) ≤ RUN
+    go true = omega (arith, line-length (runBytes chart row))
+    go false = omega arith
+
+pub runs-length : (mask : ℕ) (rows : List Row) (n : ℕ) → length (runTexts mask rows n) ≤ RUN * n
+unfolding runTexts
+runs-length mask rows zero = omega arith
+runs-length mask rows (suc n) =
+    simp length-append (omega (arith, runs-length mask rows n, chart-length mask n (getD rows n noRow)))
+
+-- ---- the loop that puts them: the lines of the charts below `chart` stand over the buffer
+
+pub record Charted (mask : ℕ) (rows : List Row) (buffer₀ : List ℕ) (at : ℕ) (buffer : List ℕ) (to chart : ℕ) : Type 0 where
+  pub below : chart ≤ CHARTS
+  pub place : to ≡ at + length (runTexts mask rows chart)
+  pub text : buffer ≡ over buffer₀ at (runTexts mask rows chart)
+
+module _ (mask : ℕ) (rows : List Row) (buffer₀ : List ℕ) (at : ℕ) where
+  pub charted-none : Charted mask rows buffer₀ at buffer₀ at 0
+  unfolding runTexts
+  charted-none = record { below = omega arith; place = omega arith; text = sym (over-none buffer₀ at) }
+
+  pub charted-length : (buffer : List ℕ) (to chart : ℕ) → Charted mask rows buffer₀ at buffer to chart → at + RUNS ≤ length buffer₀ → length buffer ≡ length buffer₀
+  charted-length buffer to chart g room =
+      ap length (g .text) ∙ over-length buffer₀ at (runTexts mask rows chart) (omega (arith, g .below, runs-length mask rows chart))
+
+  pub charted-fits : (buffer : List ℕ) (to chart : ℕ) (row : Row) → Charted mask rows buffer₀ at buffer to chart → at + RUNS ≤ length buffer₀ → chart < CHARTS
+      → to + length (chartText mask chart row) ≤ length buffer
+  charted-fits buffer to chart row g room h =
+      omega (arith, charted-length buffer to chart g room, g .place, runs-length mask rows chart, chart-length mask chart row)
+
+  pub charted-more : (buffer next : List ℕ) (to here chart : ℕ) (row : Row) → Charted mask rows buffer₀ at buffer to chart → at + RUNS ≤ length buffer₀ → chart < CHARTS
+      → row ≡ getD rows chart noRow → here ≡ to + length (chartText mask chart row) → next ≡ over buffer to (chartText mask chart row)
+      → Charted mask rows buffer₀ at next here (chart + 1)
+  unfolding runTexts
+  charted-more buffer next to here chart row g room h r p t =
+      let text = runTexts mask rows chart in
+      let line = chartText mask chart (getD rows chart noRow) in
+      let long : at + length text + length line ≤ length buffer₀ = omega (arith, runs-length mask rows chart, chart-length mask chart (getD rows chart noRow)) in
+      record {
+        below = omega arith;
+        place = rw (add-one chart, length-append text line, p, r, g .place) (omega arith);
+        text = rw (add-one chart, t, r, g .text, g .place) (over-over buffer₀ at text line long);
+      }
+
+-- ---- the status line, and the lines of the charts behind it
+
+module _ (r : Report) (buffer middle : List ℕ) (at to : ℕ) (room : at + STATUS ≤ length buffer) (p : to ≡ at + length (lineText (stageBytes r)))
+    (t : middle ≡ over buffer at (lineText (stageBytes r)))
+  where
+    line : List ℕ
+    line = lineText (stageBytes r)
+
+    lines : List ℕ
+    lines = runTexts (r .mask) (r .rows) CHARTS
+
+    pub status-room : to + RUNS ≤ length middle
+    status-room =
+        rw t (omega (arith, line-length (stageBytes r), over-length buffer at (lineText (stageBytes r)) (omega (arith, line-length (stageBytes r)))))
+
+    pub status-put : (last : List ℕ) (here : ℕ) → here ≡ to + length (runTexts (r .mask) (r .rows) CHARTS) → last ≡ over middle to (runTexts (r .mask) (r .rows) CHARTS)
+        → (here ≡ at + length (statusText r)) × (last ≡ over buffer at (statusText r))
+    unfolding line lines
+    status-put last here q u =
+        let fits : at + length line + length lines ≤ length buffer = omega (arith, line-length (stageBytes r), runs-length (r .mask) (r .rows) CHARTS) in
+        (rw (length-append line lines, q, p) (omega arith), rw (u, t, p) (over-over buffer at line lines fits))
+
+pub status-length : (r : Report) → length (statusText r) ≤ STATUS
+status-length r =
+    rw (length-append (lineText (stageBytes r)) (runTexts (r .mask) (r .rows) CHARTS)) (omega (arith, line-length (stageBytes r), runs-length (r .mask) (r .rows) CHARTS))

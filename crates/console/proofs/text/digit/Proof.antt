@@ -1,0 +1,22 @@
+-- `digit` meets its contract. Assumes nothing.
+use borrow.Author.Needs.{needs}
+use mathlib.Core.Path.{sym}
+use native.Mathlib.Omega.{arith}
+use Rattle.line.proofs.DigitLaws.{low-of, high-of}
+use Rattle.console.proofs.text.digit.Statement.{statement}
+use Rattle.console.proofs.text.digit.Tie as tie
+
+add-result : tie.Need-add-result
+add-result c = search needs
+
+add-result-2 : tie.Need-add-result-2
+add-result-2 c = search needs
+
+returns : tie.Need-returns
+returns c = sym (low-of _ (c .if1 .taken))
+
+returns-2 : tie.Need-returns-2
+returns-2 c = omega (arith, high-of (c .before .args .n) (c .if1 .left))
+
+pub digit-spec : {M : Type 1} → statement M
+digit-spec = tie.close (tie.spec add-result add-result-2 returns returns-2)

@@ -1,0 +1,36 @@
+-- What `feed` takes, hands back and writes.
+use Prim.Native.Nat.{ℕ, suc, _-_, _≤_, _<_}
+use mathlib.Core.Bool.{cond}
+use mathlib.Core.List.{List, [], _∷_}
+use lib.Dec.{ltb}
+use lib.ListN.{length, take}
+use Rattle.console.specs.Room.{ANSWER}
+use Rattle.console.specs.Buffer.{over}
+use Rattle.console.specs.State.{steppedOf, stepText, consoleAfter, textAfter}
+use Rattle.console.specs.declared.Console.{Console}
+use Rattle.console.specs.declared.Fed.{Fed}
+
+-- how many bytes are taken: all, or as many as come while there is room for one more answer
+unfoldable pub takes : Console → List ℕ → ℕ → ℕ
+takes c [] room = 0
+takes c (x ∷ xs) room = cond (ltb room ANSWER) 0 (suc (takes (steppedOf c x) xs (room - length (stepText c x))))
+
+-- the bytes that are taken
+abbrev pub takenBytes : Console → List ℕ → ℕ → List ℕ
+takenBytes c input room = take (takes c input room) input
+
+abbrev pub fedOf : Console → List ℕ → ℕ → Fed
+fedOf c input room = record {
+  console = consoleAfter c (takenBytes c input room);
+  taken = takes c input room;
+  written = length (textAfter c (takenBytes c input room));
+}
+
+abbrev pub fedBuffer : Console → List ℕ → List ℕ → List ℕ
+fedBuffer c input output = over output 0 (textAfter c (takenBytes c input (length output)))
+
+-- what is taken and written lies within the slices, and with an input and room for an answer something is taken
+pub record Within (input output : List ℕ) (r : Fed) : Type 0 where
+  pub taken : r .taken ≤ length input
+  pub written : r .written ≤ length output
+  pub some : 0 < length input → ANSWER ≤ length output → 0 < r .taken

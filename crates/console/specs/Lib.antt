@@ -1,0 +1,12 @@
+-- Document 01, "The program".
+pub mod Text
+pub mod Lines
+pub mod Transcript
+pub mod Room
+pub mod Buffer
+pub mod State
+pub mod Stands
+pub mod Feed
+pub mod Finish
+pub mod Pieces
+pub mod Examples

@@ -1,0 +1,49 @@
+-- Document 01, "The program": the lines of the input. A newline ends a line and is no part of it. An unended last line counts if not empty.
+use Prim.Native.Nat.{ℕ}
+use mathlib.Core.Path.{_≡_}
+use mathlib.Core.Bool.{Bool, false, cond, _||_}
+use mathlib.Core.List.{List, [], _∷_, _++_}
+use lib.Dec.{eqb}
+use Rattle.console.specs.Text.{NEWLINE}
+
+-- the lines that are ended, where p stands before the input, as the start of its first line
+unfoldable pub endedAfter : List ℕ → List ℕ → List (List ℕ)
+endedAfter p [] = []
+endedAfter p (x ∷ xs) = cond (eqb x NEWLINE) (p ∷ endedAfter [] xs) (endedAfter (p ++ x ∷ []) xs)
+
+-- what follows the last newline
+unfoldable pub restAfter : List ℕ → List ℕ → List ℕ
+restAfter p [] = p
+restAfter p (x ∷ xs) = cond (eqb x NEWLINE) (restAfter [] xs) (restAfter (p ++ x ∷ []) xs)
+
+abbrev pub ended : List ℕ → List (List ℕ)
+ended input = endedAfter [] input
+
+abbrev pub rest : List ℕ → List ℕ
+rest input = restAfter [] input
+
+-- an unended last line counts if not empty
+abbrev pub lastLine : List ℕ → List (List ℕ)
+lastLine [] = []
+lastLine (x ∷ xs) = (x ∷ xs) ∷ []
+
+abbrev pub linesOf : List ℕ → List (List ℕ)
+linesOf input = ended input ++ lastLine (rest input)
+
+-- What `ended` and `rest` are, as a law that is proved: the input is the ended lines, each with its newline, and the rest; and no newline stands in them.
+abbrev pub unlines : List (List ℕ) → List ℕ
+unlines [] = []
+unlines (l ∷ ls) = l ++ NEWLINE ∷ unlines ls
+
+abbrev pub hasNewline : List ℕ → Bool
+hasNewline [] = false
+hasNewline (x ∷ xs) = eqb x NEWLINE || hasNewline xs
+
+abbrev pub anyNewline : List (List ℕ) → Bool
+anyNewline [] = false
+anyNewline (l ∷ ls) = hasNewline l || anyNewline ls
+
+pub record Split (input : List ℕ) (ls : List (List ℕ)) (unended : List ℕ) : Type 0 where
+  pub whole : unlines ls ++ unended ≡ input
+  pub lines : anyNewline ls ≡ false
+  pub last : hasNewline unended ≡ false

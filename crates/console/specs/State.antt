@@ -1,0 +1,43 @@
+-- What the console holds, and what a byte of the input does to it. What all of it comes to is `transcript`.
+use Prim.Native.Nat.{ℕ, _+_}
+use mathlib.Core.Bool.{cond}
+use mathlib.Core.List.{List, [], _∷_, _++_}
+use lib.Dec.{ltb, eqb}
+use lib.ListN.{take, set, replicate}
+use Rattle.unit.specs.Take.{newUnit, takenOf}
+use Rattle.console.specs.Text.{NEWLINE, answerText}
+use Rattle.console.specs.declared.Console.{Console}
+
+-- how many bytes of a line are held
+abbrev pub HELD : ℕ
+HELD = 69
+
+abbrev pub newConsole : Console
+newConsole = record { unit = newUnit; held = 0; bytes = replicate HELD 0 }
+
+-- the part of a line not yet ended, as far as it is held
+abbrev pub pending : Console → List ℕ
+pending c = take (c .held) (c .bytes)
+
+-- a byte of a line: it is held, if there is room
+abbrev pub heldOf : Console → ℕ → Console
+heldOf c x = cond (ltb (c .held) HELD) (record { unit = c .unit; held = c .held + 1; bytes = set (c .bytes) (c .held) x }) c
+
+-- a newline: the line is taken
+abbrev pub endedOf : Console → Console
+endedOf c = record { unit = takenOf (c .unit) (pending c) .unit; held = 0; bytes = c .bytes }
+
+unfoldable pub steppedOf : Console → ℕ → Console
+steppedOf c x = cond (eqb x NEWLINE) (endedOf c) (heldOf c x)
+
+unfoldable pub stepText : Console → ℕ → List ℕ
+stepText c x = cond (eqb x NEWLINE) (answerText (takenOf (c .unit) (pending c) .event)) []
+
+-- the console after bytes, and the text of their answers
+abbrev pub consoleAfter : Console → List ℕ → Console
+consoleAfter c [] = c
+consoleAfter c (x ∷ xs) = consoleAfter (steppedOf c x) xs
+
+abbrev pub textAfter : Console → List ℕ → List ℕ
+textAfter c [] = []
+textAfter c (x ∷ xs) = stepText c x ++ textAfter (steppedOf c x) xs

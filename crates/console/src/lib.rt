@@ -1,0 +1,143 @@
+// The text around the unit: bytes in, bytes out, with no input or output of its own.
+
+mod answer;
+mod report;
+mod text;
+
+use answer::ANSWER;
+use answer::put_answer;
+use report::STATUS;
+use report::put_status;
+use text::NEWLINE;
+use unit::Unit;
+use unit::new_unit;
+use unit::status;
+use unit::take;
+ghost use mathlib.Core.Path.{_≡_};
+ghost use Prim.Native.Nat.{ℕ, _≤_};
+ghost use mathlib.Core.List.{List, _++_};
+ghost use lib.ListN.{length, take};
+ghost use Rattle.console.specs.Transcript.{textOf, transcript};
+ghost use Rattle.console.specs.Buffer.{over};
+ghost use Rattle.console.specs.Room.{ANSWER, LAST};
+ghost use Rattle.console.specs.State.{newConsole};
+ghost use Rattle.console.specs.Stands.{Stands, Reached};
+ghost use Rattle.console.specs.Feed.{fedOf, fedBuffer, Within};
+ghost use Rattle.console.specs.Finish.{lastUnit, lastText, finishedOf, finishedBuffer};
+
+// How many bytes of a line not yet ended are held. A line that has come to so many can only be
+// refused for its length, however long it grows.
+const HELD: usize = 69;
+
+// How many bytes the end has at most: the unended line's answer, and the status.
+const LAST: usize = ANSWER + STATUS;
+
+// A unit, and the part of a line not yet ended: the first `held` bytes of `bytes`.
+pub struct Console {
+    unit: Unit,
+    held: usize,
+    bytes: [u8; HELD],
+}
+
+// What feeding gives: the console after it, how many bytes it took, and how many it wrote.
+pub struct Fed {
+    pub console: Console,
+    pub taken: usize,
+    pub written: usize,
+}
+
+pub fn new_console() -> Console
+    ensures whole { λ r. ⌜ r ≡ newConsole ⌝ }
+    ensures reached { λ r. ⌜ Reached r ⌝ }
+{
+    Console {
+        unit: new_unit(),
+        held: 0,
+        bytes: [0u8; HELD],
+    }
+}
+
+// Takes the input byte by byte and answers each line that ends, while the output has room for one
+// more answer.
+pub fn feed(console: Console, input: &[u8], output: &mut [u8]) -> Fed
+    requires { ⌜ Reached console ⌝ }
+    ensures whole { λ r. ⌜ r ≡ fedOf console (now (input .entry)) (length (now (output .entry))) ⌝ }
+    ensures bytes { λ r. ⌜ now (output .exit) ≡ fedBuffer console (now (input .entry)) (now (output .entry)) ⌝ }
+    ensures reached { λ r. ⌜ Reached (r .console) ⌝ }
+    ensures within { λ r. ⌜ Within (now (input .entry)) (now (output .exit)) r ⌝ }
+    ensures stands { λ r. ⌜ ((before : List ℕ) → Stands console before
+        → Stands (r .console) (before ++ take (r .taken) (now (input .entry)))
+        × (textOf (before ++ take (r .taken) (now (input .entry))) ≡ textOf before ++ take (r .written) (now (output .exit)))) ⌝ }
+{
+    let mut unit = console.unit;
+    let mut held = console.held;
+    let mut bytes = console.bytes;
+    let mut taken = 0;
+    let mut written = 0;
+    while (taken < input.len()) & (ANSWER <= output.len() - written) {
+        let byte = input[taken];
+        if byte == NEWLINE {
+            let answer = take(unit, &bytes[..held]);
+            let event = answer.event;
+            unit = answer.unit;
+            held = 0;
+            written = put_answer(event, output, written);
+        } else if held < HELD {
+            bytes[held] = byte;
+            held += 1;
+        }
+        taken += 1;
+    }
+    let after = Console { unit, held, bytes };
+    Fed {
+        console: after,
+        taken,
+        written,
+    }
+}
+
+// A unit after the last line, and the place after its answer.
+struct Last {
+    unit: Unit,
+    written: usize,
+}
+
+fn end_line(console: Console, output: &mut [u8]) -> Last
+    requires { ⌜ Reached console × (ANSWER ≤ length (now output)) ⌝ }
+    ensures unit { λ r. ⌜ r .unit ≡ lastUnit console ⌝ }
+    ensures place { λ r. ⌜ r .written ≡ length (lastText console) ⌝ }
+    ensures text { λ r. ⌜ now (output .exit) ≡ over (now (output .entry)) 0 (lastText console) ⌝ }
+{
+    let unit = console.unit;
+    let held = console.held;
+    let bytes = console.bytes;
+    if held == 0 {
+        return Last { unit, written: 0 };
+    }
+    let answer = take(unit, &bytes[..held]);
+    let event = answer.event;
+    let after = answer.unit;
+    let written = put_answer(event, output, 0);
+    Last {
+        unit: after,
+        written,
+    }
+}
+
+// Ends the last line and writes the status. To a buffer that could be too short nothing is written.
+pub fn finish(console: Console, output: &mut [u8]) -> usize
+    requires { ⌜ Reached console ⌝ }
+    ensures whole { λ r. ⌜ r ≡ finishedOf console (length (now (output .entry))) ⌝ }
+    ensures bytes { λ r. ⌜ now (output .exit) ≡ finishedBuffer console (now (output .entry)) ⌝ }
+    ensures within { λ r. ⌜ r ≤ length (now (output .exit)) ⌝ }
+    ensures transcript { λ r. ⌜ ((input : List ℕ) → Stands console input → LAST ≤ length (now (output .entry))
+        → textOf input ++ take r (now (output .exit)) ≡ transcript input) ⌝ }
+{
+    if output.len() < LAST {
+        return 0;
+    }
+    let last = end_line(console, output);
+    let written = last.written;
+    let unit = last.unit;
+    put_status(status(unit), output, written)
+}

@@ -1,0 +1,124 @@
+// The status line, and a line for each chart that is over.
+
+use crate::text::put_line;
+use unit::report::Report;
+use unit::report::Row;
+ghost use mathlib.Core.Path.{_≡_};
+ghost use Prim.Native.Nat.{_+_, _<_, _≤_, _/_, _%_};
+ghost use lib.ListN.{length};
+ghost use Rattle.console.specs.Text.{bitsOf, missesByte, stageBytes, runBytes, chartText, CHARTS, runTexts, statusText};
+ghost use Rattle.console.specs.Room.{RUNS, STATUS};
+ghost use Rattle.console.specs.Buffer.{over};
+
+// 4 charts for each of 4 analytes.
+const CHARTS: u8 = 16;
+
+// How many bytes the status line and a chart's line have: two digits to a byte, and a newline.
+const STAGE: usize = 13;
+
+const RUN: usize = 19;
+
+// How many bytes the status has at most.
+pub const STATUS: usize = STAGE + CHARTS as usize * RUN;
+
+fn high(n: u16) -> u8
+    ensures { λ r. ⌜ r ≡ n / 256 ⌝ }
+{
+    (n / 256) as u8
+}
+
+fn low(n: u16) -> u8
+    ensures { λ r. ⌜ r ≡ n % 256 ⌝ }
+{
+    (n % 256) as u8
+}
+
+// A value's 32 bits: a negative one is taken from 2³².
+fn bits_of(value: i32) -> u32
+    ensures { λ r. ⌜ r ≡ bitsOf value ⌝ }
+{
+    let low = (value & i32::MAX) as u32;
+    if value < 0 { low + 2147483648 } else { low }
+}
+
+fn misses_byte(misses: bool) -> u8
+    ensures { λ r. ⌜ r ≡ missesByte misses ⌝ }
+{
+    if misses { 1 } else { 0 }
+}
+
+fn stage_bytes(report: Report) -> [u8; 6]
+    ensures { λ r. ⌜ r ≡ stageBytes report ⌝ }
+{
+    let samples = report.samples;
+    let mask = report.mask;
+    [
+        report.stage,
+        high(samples),
+        low(samples),
+        high(mask),
+        low(mask),
+        misses_byte(report.misses),
+    ]
+}
+
+fn run_bytes(chart: u8, row: Row) -> [u8; 9]
+    ensures { λ r. ⌜ r ≡ runBytes chart row ⌝ }
+{
+    let value = bits_of(row.value);
+    let upper = (value / 65536) as u16;
+    let lower = (value % 65536) as u16;
+    [
+        chart,
+        high(row.first),
+        low(row.first),
+        high(row.last),
+        low(row.last),
+        high(upper),
+        low(upper),
+        high(lower),
+        low(lower),
+    ]
+}
+
+// Puts the line of a chart into the buffer, if its bit is set.
+fn put_chart(mask: u16, chart: u8, row: Row, buffer: &mut [u8], at: usize) -> usize
+    requires { ⌜ (chart < CHARTS) × (at + length (chartText mask chart row) ≤ length (now buffer)) ⌝ }
+    ensures place { λ r. ⌜ r ≡ at + length (chartText mask chart row) ⌝ }
+    ensures text { λ r. ⌜ now (buffer .exit) ≡ over (now (buffer .entry)) at (chartText mask chart row) ⌝ }
+{
+    if (mask >> chart) % 2 != 1 {
+        return at;
+    }
+    let bytes = run_bytes(chart, row);
+    put_line(&bytes, buffer, at)
+}
+
+// Puts a line for each set bit into the buffer, lowest first.
+fn put_charts(report: Report, buffer: &mut [u8], at: usize) -> usize
+    requires { ⌜ at + RUNS ≤ length (now buffer) ⌝ }
+    ensures place { λ r. ⌜ r ≡ at + length (runTexts (report .mask) (report .rows) CHARTS) ⌝ }
+    ensures text { λ r. ⌜ now (buffer .exit) ≡ over (now (buffer .entry)) at (runTexts (report .mask) (report .rows) CHARTS) ⌝ }
+{
+    let mask = report.mask;
+    let rows = report.rows;
+    let mut to = at;
+    let mut chart: u8 = 0;
+    while chart < CHARTS {
+        let row = rows[chart as usize];
+        to = put_chart(mask, chart, row, buffer, to);
+        chart += 1;
+    }
+    to
+}
+
+// Puts the status into the buffer.
+pub fn put_status(report: Report, buffer: &mut [u8], at: usize) -> usize
+    requires { ⌜ at + STATUS ≤ length (now buffer) ⌝ }
+    ensures place { λ r. ⌜ r ≡ at + length (statusText report) ⌝ }
+    ensures text { λ r. ⌜ now (buffer .exit) ≡ over (now (buffer .entry)) at (statusText report) ⌝ }
+{
+    let bytes = stage_bytes(report);
+    let to = put_line(&bytes, buffer, at);
+    put_charts(report, buffer, to)
+}

@@ -1,0 +1,99 @@
+// Answers the lines of standard input on standard output, and then gives the status. Where a read
+// or a write fails it stops.
+use console::Console;
+use console::feed;
+use console::finish;
+use console::new_console;
+use libc::STDIN_FILENO;
+use libc::STDOUT_FILENO;
+ghost use Prim.Native.Nat.{_≤_, _<_};
+ghost use mathlib.Core.Bool.{false};
+ghost use mathlib.Core.Path.{_≡_};
+ghost use lib.ListN.{length};
+ghost use Rattle.console.specs.Room.{ANSWER, LAST};
+ghost use Rattle.console.specs.Stands.{Reached};
+
+// How many bytes the console's longest end has.
+const ROOM: usize = 322;
+
+// A console between two pieces of the input: whether more is to be read, and whether no read or
+// write has failed.
+struct Turn {
+    console: Console,
+    more: bool,
+    good: bool,
+}
+
+// Feeds a piece of the input, and writes the answers whenever the output has no more room.
+fn answer(start: Console, piece: &[u8], output: &mut [u8]) -> Turn
+    requires { ⌜ Reached start × (ANSWER ≤ length (now output)) ⌝ }
+    ensures { λ r. ⌜ Reached (r .console) ⌝ }
+{
+    let mut console = start;
+    let mut at = 0;
+    let mut good = true;
+    while good & (at < piece.len()) {
+        let fed = feed(console, &piece[at..], output);
+        console = fed.console;
+        at += fed.taken;
+        let written = fed.written;
+        good = io::write_all(STDOUT_FILENO, &output[..written]);
+    }
+    Turn {
+        console,
+        more: good,
+        good,
+    }
+}
+
+// Reads a piece of the input and answers it.
+fn take_turn(console: Console, input: &mut [u8], output: &mut [u8]) -> Turn
+    requires { ⌜ Reached console × (ANSWER ≤ length (now output)) ⌝ }
+    ensures { λ r. ⌜ Reached (r .console) ⌝ }
+{
+    let got = libc::read(STDIN_FILENO, input);
+    if got <= 0 {
+        return Turn {
+            console,
+            more: false,
+            good: got == 0,
+        };
+    }
+    let n = io::count(got, input);
+    answer(console, &input[..n], output)
+}
+
+// Answers the whole input. A proved loop has to end, and nothing says that the input does: the
+// loop counts its turns down, from a number that no run uses up.
+fn converse(input: &mut [u8], output: &mut [u8]) -> bool
+    requires { ⌜ ANSWER ≤ length (now output) ⌝ }
+{
+    let mut console = new_console();
+    let mut more = true;
+    let mut good = true;
+    let mut turns = u64::MAX;
+    while more & (turns > 0) {
+        let next = take_turn(console, input, output);
+        console = next.console;
+        more = next.more;
+        good = next.good;
+        turns -= 1;
+    }
+    if good {
+        let written = finish(console, output);
+        return io::write_all(STDOUT_FILENO, &output[..written]);
+    }
+    false
+}
+
+// Answers the lines of standard input on standard output by way of two buffers, and says whether
+// no read or write failed. An output buffer that could be too short for the end is refused, before
+// anything is read. What is read and written no contract can say.
+pub fn run(input: &mut [u8], output: &mut [u8]) -> bool
+    ensures { λ r. ⌜ (length (now (output .entry)) < LAST → r ≡ false) ⌝ }
+{
+    if output.len() < ROOM {
+        return false;
+    }
+    converse(input, output)
+}
