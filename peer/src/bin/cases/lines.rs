@@ -1,0 +1,216 @@
+//! The rows of `lines.stdin`: each with what it shows and what must come of it.
+
+use peer::draft::halves;
+use peer::line::{Fields, FAT, MOISTURE, PROTEIN, SALT};
+
+use crate::plain::FIELDS;
+
+/// A text, what it shows, and the refusal's number or 0 where it reads.
+pub struct Row {
+    pub text: Vec<u8>,
+    pub shows: String,
+    pub refusal: u8,
+}
+
+#[derive(Default)]
+struct Rows(Vec<Row>);
+
+impl Rows {
+    fn text(&mut self, shows: &str, refusal: u8, text: Vec<u8>) {
+        self.0.push(Row { text, shows: shows.to_string(), refusal });
+    }
+
+    fn line(&mut self, shows: &str, refusal: u8, change: impl Fn(&mut Fields)) {
+        let mut fields = FIELDS;
+        change(&mut fields);
+        self.text(shows, refusal, fields.text());
+    }
+
+    /// The moisture reading's tag and bits.
+    fn reading(&mut self, shows: &str, refusal: u8, tag: u8, bits: u32) {
+        self.line(shows, refusal, |fields| fields.readings[MOISTURE] = (tag, bits));
+    }
+
+    fn mean(&mut self, shows: &str, refusal: u8, product: u8, analyte: usize, mean: u16) {
+        self.line(shows, refusal, |fields| {
+            fields.product = product;
+            fields.means[analyte] = mean;
+        });
+    }
+}
+
+pub fn rows() -> Vec<Row> {
+    let mut rows = Rows::default();
+    lengths(&mut rows);
+    digits(&mut rows);
+    kind_and_date(&mut rows);
+    products(&mut rows);
+    means(&mut rows);
+    tags(&mut rows);
+    percents(&mut rows);
+    two_faults(&mut rows);
+    rows.0
+}
+
+fn lengths(rows: &mut Rows) {
+    let text = FIELDS.text();
+    rows.text("document 01's line", 0, text.clone());
+    rows.text("length 0", 1, Vec::new());
+    rows.text("length 1", 1, text[..1].to_vec());
+    rows.text("length 67", 1, text[..67].to_vec());
+    rows.text("length 69", 1, [&text[..], b"0"].concat());
+    rows.text("length 70", 1, [&text[..], b"00"].concat());
+    rows.text("length 69: a carriage return at the end", 1, [&text[..], b"\r"].concat());
+    rows.text("length 136: two lines without a newline between", 1, text.repeat(2));
+}
+
+fn digits(rows: &mut Rows) {
+    let with = |at: usize, byte: u8| {
+        let mut text = FIELDS.text();
+        text[at] = byte;
+        text
+    };
+    rows.text("uppercase digit: C for c in the year", 2, with(5, b'C'));
+    let upper = FIELDS.text().to_ascii_uppercase();
+    rows.text("all digits in uppercase", 2, upper);
+    rows.text("'/', the byte before '0'", 2, with(67, b'/'));
+    rows.text("'0', the first digit, in the same place", 0, with(67, b'0'));
+    rows.text("':', the byte after '9', first in the line", 2, with(0, b':'));
+    rows.text("'`', the byte before 'a'", 2, with(36, b'`'));
+    rows.text("'a' in the same place", 0, with(36, b'a'));
+    rows.text("'g', the byte after 'f'", 2, with(37, b'g'));
+    rows.text("'f' in the same place", 0, with(37, b'f'));
+    rows.text("'@', the byte before 'A'", 2, with(20, b'@'));
+    rows.text("a space", 2, with(33, b' '));
+    rows.text("byte 00", 2, with(12, 0x00));
+    rows.text("byte ff", 2, with(13, 0xff));
+    rows.text("byte b0, '0' with bit 7 set", 2, with(14, 0xb0));
+}
+
+fn kind_and_date(rows: &mut Rows) {
+    rows.line("kind 00", 3, |fields| fields.kind = 0);
+    rows.line("kind 01", 0, |fields| fields.kind = 1);
+    rows.line("kind 03", 3, |fields| fields.kind = 3);
+    rows.line("kind 81", 3, |fields| fields.kind = 0x81);
+    rows.line("year 1999", 4, |fields| fields.year = 1999);
+    rows.line("year 2000", 0, |fields| fields.year = 2000);
+    rows.line("year 2099", 0, |fields| fields.year = 2099);
+    rows.line("year 2100", 4, |fields| fields.year = 2100);
+    rows.line("month 0", 4, |fields| fields.month = 0);
+    rows.line("month 1", 0, |fields| fields.month = 1);
+    rows.line("month 12", 0, |fields| fields.month = 12);
+    rows.line("month 13", 4, |fields| fields.month = 13);
+    rows.line("days 255: reading alone does not mind", 0, |fields| fields.days = 255);
+}
+
+fn products(rows: &mut Rows) {
+    let product = |rows: &mut Rows, shows: &str, refusal, byte| {
+        rows.line(shows, refusal, |fields| fields.product = byte)
+    };
+    product(rows, "class 0, cured pork and canned ham", 0, 0x00);
+    product(rows, "class 1, ground beef", 0, 0x01);
+    product(rows, "class 3, poultry", 0, 0x03);
+    product(rows, "bit 7 with class 0", 5, 0x80);
+    product(rows, "bit 7 with class 1", 5, 0x81);
+    product(rows, "bit 7 with class 2, dry salami or pepperoni", 0, 0x82);
+    product(rows, "bit 7 with class 3", 5, 0x83);
+    product(rows, "bit 2", 5, 0x06);
+    product(rows, "bit 3", 5, 0x0a);
+    product(rows, "bit 4", 5, 0x12);
+    product(rows, "bit 5", 5, 0x22);
+    product(rows, "bit 6", 5, 0x42);
+    product(rows, "bits 7 and 6 with class 2", 5, 0xc2);
+}
+
+fn means(rows: &mut Rows) {
+    for (name, analyte) in
+        [("moisture", MOISTURE), ("protein", PROTEIN), ("fat", FAT), ("salt", SALT)]
+    {
+        rows.mean(&format!("{name} mean 10000"), 0, 2, analyte, 10_000);
+        rows.mean(&format!("{name} mean 10001"), 6, 2, analyte, 10_001);
+    }
+    rows.mean("moisture mean 0", 0, 2, MOISTURE, 0);
+    rows.mean("salt mean 0", 0, 2, SALT, 0);
+    rows.mean("protein mean 4", 6, 2, PROTEIN, 4);
+    rows.mean("protein mean 5", 0, 2, PROTEIN, 5);
+    rows.mean("fat mean 0", 6, 2, FAT, 0);
+    rows.mean("fat mean 1", 0, 2, FAT, 1);
+    rows.mean("fat mean 1249 of ground beef", 6, 1, FAT, 1249);
+    rows.mean("fat mean 1250 of ground beef", 0, 1, FAT, 1250);
+    rows.mean("fat mean 1249 of cured pork", 0, 0, FAT, 1249);
+    rows.mean("fat mean 1249 of poultry", 0, 3, FAT, 1249);
+    rows.mean("salt mean 65535", 6, 2, SALT, u16::MAX);
+}
+
+fn tags(rows: &mut Rows) {
+    rows.reading("tag 01, nothing found", 0, 1, 0);
+    rows.reading("tag 02, lost", 0, 2, 0);
+    rows.reading("tag 03", 7, 3, 0);
+    rows.reading("tag 80", 7, 0x80, 0);
+    rows.reading("tag 01 with a byte not zero", 7, 1, 1);
+    rows.reading("tag 02 with a byte not zero", 7, 2, 0x0100_0000);
+    rows.line("tag 03 on salt, the last reading", 7, |fields| fields.readings[SALT].0 = 3);
+    rows.line("all four readings lost", 0, |fields| fields.readings = [(2, 0); 4]);
+    rows.line("all four readings nothing found", 0, |fields| fields.readings = [(1, 0); 4]);
+}
+
+fn percents(rows: &mut Rows) {
+    rows.reading("percent 0", 0, 0, 0);
+    rows.reading("the smallest subnormal", 0, 0, 0x0000_0001);
+    rows.reading("the largest subnormal", 0, 0, 0x007f_ffff);
+    rows.reading("the smallest normal", 0, 0, 0x0080_0000);
+    rows.reading("a tiny percent, 2^-64", 0, 0, 0x1f80_0000);
+    rows.reading("just below .005, to 0 hundredths", 0, 0, 0x3ba3_d70a);
+    rows.reading("just above .005, to 1 hundredth", 0, 0, 0x3ba3_d70b);
+    rows.reading("halfway, 0.125: 12.5 hundredths", 0, 0, 0x3e00_0000);
+    rows.reading("the percent before 0.125", 0, 0, 0x3dff_ffff);
+    rows.reading("halfway, 60.125", 0, 0, halves(6012));
+    rows.reading("100.0", 0, 0, 0x42c8_0000);
+    rows.reading("the percent before 100.0", 0, 0, 0x42c7_ffff);
+    rows.reading("the percent after 100.0", 7, 0, 0x42c8_0001);
+    rows.reading("infinity", 7, 0, 0x7f80_0000);
+    rows.reading("a NaN", 7, 0, 0x7fc0_0000);
+    rows.reading("a signalling NaN", 7, 0, 0x7f80_0001);
+    rows.reading("minus zero", 7, 0, 0x8000_0000);
+    rows.reading("minus the smallest subnormal", 7, 0, 0x8000_0001);
+    rows.reading("minus 60.0", 7, 0, 0xc270_0000);
+    rows.reading("minus infinity", 7, 0, 0xff80_0000);
+    rows.reading("all bits set", 7, 0, 0xffff_ffff);
+    for (name, analyte) in [("protein", PROTEIN), ("fat", FAT), ("salt", SALT)] {
+        let shows = format!("the percent after 100.0 on {name}");
+        rows.line(&shows, 7, |fields| fields.readings[analyte] = (0, 0x42c8_0001));
+    }
+}
+
+fn two_faults(rows: &mut Rows) {
+    let text = FIELDS.text();
+    let upper = [&text[..66], b"G"].concat();
+    rows.text("length 67 and no digit: length", 1, upper);
+    let mut no_digit = Fields { kind: 3, ..FIELDS }.text();
+    no_digit[67] = b'x';
+    rows.text("no digit and kind 03: digit", 2, no_digit);
+    rows.line("kind 00 and month 13: kind", 3, |fields| (fields.kind, fields.month) = (0, 13));
+    rows.line("year 2100 and product 04: date", 4, |fields| {
+        (fields.year, fields.product) = (2100, 4)
+    });
+    rows.line("product 81 and fat mean 1249: product", 5, |fields| {
+        fields.product = 0x81;
+        fields.means[FAT] = 1249;
+    });
+    rows.line("salt mean 10001 and moisture tag 03: mean", 6, |fields| {
+        fields.means[SALT] = 10_001;
+        fields.readings[MOISTURE].0 = 3;
+    });
+    rows.line("every field at fault: kind", 3, |fields| {
+        *fields = Fields {
+            kind: 0xff,
+            year: u16::MAX,
+            month: 0xff,
+            days: 0xff,
+            product: 0xff,
+            means: [u16::MAX; 4],
+            readings: [(0xff, u32::MAX); 4],
+        }
+    });
+    rows.text("document 01's line again", 0, text);
+}

@@ -1,0 +1,219 @@
+//! "Stages", "Stretch and run" and rows 8 to 12 of "Refused", read off the list of accepted
+//! lines and their events. Nothing else is kept.
+
+use crate::charts::{contributions, over, Contributions, Over};
+use crate::difference::{differences, Derived};
+use crate::line::{read, Kind, Line, ANALYTES};
+use crate::refused::Refusal;
+use crate::study::{passes, SET};
+
+pub const LONGEST_STRETCH: usize = 999;
+/// Misses at most this many months apart open probation.
+pub const MISSES_APART: u32 = 11;
+
+#[derive(Clone, Copy, Debug, PartialEq, Eq)]
+pub enum Stage {
+    Applicant,
+    SecondSet,
+    Accredited,
+    Probation,
+    Closed,
+}
+
+#[derive(Clone, Copy, Debug, PartialEq, Eq)]
+pub enum Event {
+    Refused(Refusal),
+    Sample,
+    Missed,
+    UnderWay(u8),
+    Passed,
+    Failed,
+    ProbationByCharts,
+    ProbationByMisses,
+}
+
+impl Event {
+    pub fn bytes(self) -> [u8; 2] {
+        match self {
+            Event::Refused(refusal) => [0, refusal.number()],
+            Event::Sample => [1, 0],
+            Event::Missed => [2, 0],
+            Event::UnderWay(lines) => [3, lines],
+            Event::Passed => [4, 0],
+            Event::Failed => [5, 0],
+            Event::ProbationByCharts => [6, 0],
+            Event::ProbationByMisses => [7, 0],
+        }
+    }
+}
+
+/// What is printed after the events.
+#[derive(Clone, Debug, PartialEq, Eq)]
+pub struct Status {
+    pub stage: Stage,
+    pub samples: u16,
+    pub misses: bool,
+    pub over: Vec<Over>,
+}
+
+/// What an accepted line is.
+enum Accepted {
+    Study([i32; ANALYTES]),
+    Sample(Contributions),
+    Missed,
+}
+
+struct Entry {
+    year: u16,
+    month_number: u32,
+    accepted: Accepted,
+    event: Event,
+}
+
+#[derive(Default)]
+pub struct Unit {
+    entries: Vec<Entry>,
+}
+
+impl Unit {
+    pub fn new() -> Unit {
+        Unit::default()
+    }
+
+    pub fn take(&mut self, text: &[u8]) -> Event {
+        match self.judge(text) {
+            Err(refusal) => Event::Refused(refusal),
+            Ok(entry) => {
+                let event = entry.event;
+                self.entries.push(entry);
+                event
+            }
+        }
+    }
+
+    fn judge(&self, text: &[u8]) -> Result<Entry, Refusal> {
+        let line = read(text)?;
+        let stage = self.stage();
+        if stage == Stage::Closed {
+            return Err(Refusal::Closed);
+        }
+        if (line.kind == Kind::Maintenance) != (stage == Stage::Accredited) {
+            return Err(Refusal::Stage);
+        }
+        let last_month = self.entries.last().map(|entry| entry.month_number);
+        if last_month.is_some_and(|last| line.month_number() < last) {
+            return Err(Refusal::Backdated);
+        }
+        let (accepted, event) = match (line.kind, line.incomplete()) {
+            (Kind::Study, true) => return Err(Refusal::Gap),
+            (Kind::Study, false) => self.study(&line),
+            (Kind::Maintenance, true) => (Accepted::Missed, self.missed(&line)),
+            (Kind::Maintenance, false) => self.sample(&line)?,
+        };
+        Ok(Entry { year: line.year, month_number: line.month_number(), accepted, event })
+    }
+
+    fn study(&self, line: &Line) -> (Accepted, Event) {
+        let own = differences(line, &Derived);
+        let mut set = self.set_so_far();
+        set.push(own);
+        let event = match set.len() {
+            SET if passes(&set) => Event::Passed,
+            SET => Event::Failed,
+            lines => Event::UnderWay(lines as u8),
+        };
+        (Accepted::Study(own), event)
+    }
+
+    fn missed(&self, line: &Line) -> Event {
+        let soon_after = |entry: &Entry| {
+            matches!(entry.accepted, Accepted::Missed)
+                && line.month_number() - entry.month_number <= MISSES_APART
+        };
+        match self.since_admission().any(soon_after) {
+            true => Event::ProbationByMisses,
+            false => Event::Missed,
+        }
+    }
+
+    fn sample(&self, line: &Line) -> Result<(Accepted, Event), Refusal> {
+        let own = contributions(&differences(line, &Derived));
+        let mut stretch = match self.last_sample_year() {
+            Some(year) if year == line.year => self.stretch(),
+            _ => Vec::new(),
+        };
+        if stretch.len() == LONGEST_STRETCH {
+            return Err(Refusal::Full);
+        }
+        stretch.push(own);
+        let event = match over(&stretch).is_empty() {
+            true => Event::Sample,
+            false => Event::ProbationByCharts,
+        };
+        Ok((Accepted::Sample(own), event))
+    }
+
+    pub fn status(&self) -> Status {
+        let stretch = self.stretch();
+        let by_misses = |entry: &Entry| entry.event == Event::ProbationByMisses;
+        Status {
+            stage: self.stage(),
+            samples: stretch.len() as u16,
+            misses: self.since_admission().any(by_misses),
+            over: over(&stretch),
+        }
+    }
+
+    /// Study lines come only before admission and after probation, so going back over them leads
+    /// to the start or to what opened probation, past the sets that failed.
+    pub fn stage(&self) -> Stage {
+        let mut failed = 0;
+        for entry in self.entries.iter().rev() {
+            match entry.event {
+                Event::UnderWay(_) => {}
+                Event::Failed => failed += 1,
+                Event::ProbationByCharts | Event::ProbationByMisses if failed == 0 => {
+                    return Stage::Probation
+                }
+                Event::ProbationByCharts | Event::ProbationByMisses => return Stage::Closed,
+                _ => return Stage::Accredited,
+            }
+        }
+        [Stage::Applicant, Stage::SecondSet, Stage::Closed][failed]
+    }
+
+    /// The entries after the last admission, or all, from the last back.
+    fn since_admission(&self) -> impl Iterator<Item = &Entry> {
+        self.entries.iter().rev().take_while(|entry| entry.event != Event::Passed)
+    }
+
+    /// The years and contributions of the samples since admission, from the last back.
+    fn samples(&self) -> impl Iterator<Item = (u16, &Contributions)> {
+        self.since_admission().filter_map(|entry| match &entry.accepted {
+            Accepted::Sample(own) => Some((entry.year, own)),
+            _ => None,
+        })
+    }
+
+    fn last_sample_year(&self) -> Option<u16> {
+        self.samples().next().map(|(year, _)| year)
+    }
+
+    /// The samples since admission that share the last one's year, in order.
+    pub fn stretch(&self) -> Vec<Contributions> {
+        let last_year = self.last_sample_year();
+        let same_year = self.samples().take_while(|(year, _)| Some(*year) == last_year);
+        let mut stretch: Vec<Contributions> = same_year.map(|(_, own)| *own).collect();
+        stretch.reverse();
+        stretch
+    }
+
+    /// The lines of the set under way.
+    fn set_so_far(&self) -> Vec<[i32; ANALYTES]> {
+        let under_way = self.entries.iter().rev().map_while(|entry| match entry {
+            Entry { accepted: Accepted::Study(own), event: Event::UnderWay(_), .. } => Some(*own),
+            _ => None,
+        });
+        under_way.collect()
+    }
+}

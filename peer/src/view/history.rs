@@ -1,0 +1,182 @@
+//! What a list of lines came to: admissions, the stretches since each, and what opened probation.
+
+use crate::charts::{Over, CHARTS};
+use crate::fast::Unit;
+use crate::line::read;
+use crate::refused::Refusal;
+use crate::unit::{Event, Status};
+use crate::view::answers::Answers;
+
+/// A line of the list, numbered from 1, and its date.
+#[derive(Clone, Copy, Debug, PartialEq, Eq)]
+pub struct Mark {
+    pub line: usize,
+    pub year: u16,
+    pub month: u8,
+}
+
+pub struct Sample {
+    pub mark: Mark,
+    /// Each chart after this sample.
+    pub values: [i32; CHARTS],
+}
+
+pub struct Stretch {
+    pub samples: Vec<Sample>,
+    /// The charts that its last sample left over.
+    pub over: Vec<Over>,
+}
+
+#[derive(Clone, Copy, Debug, PartialEq, Eq)]
+pub enum Ground {
+    Charts,
+    Misses,
+}
+
+/// One admission and all until the next.
+pub struct Admission {
+    pub mark: Mark,
+    pub stretches: Vec<Stretch>,
+    pub misses: Vec<Mark>,
+    pub probation: Option<(Mark, Ground)>,
+}
+
+pub struct History {
+    pub lines: usize,
+    /// How often each refusal was given, in the order of the table.
+    pub refused: Vec<(Refusal, usize)>,
+    pub admissions: Vec<Admission>,
+    pub status: Status,
+}
+
+impl Stretch {
+    pub fn year(&self) -> u16 {
+        self.samples[0].mark.year
+    }
+
+    /// One chart after each sample.
+    pub fn values(&self, chart: usize) -> Vec<i32> {
+        self.samples.iter().map(|sample| sample.values[chart]).collect()
+    }
+
+    pub fn run(&self, chart: usize) -> Option<crate::charts::Run> {
+        self.over.iter().find(|over| over.chart == chart).map(|over| over.run)
+    }
+}
+
+/// Goes through the list with the program's answers. `status_after` asks the program for its
+/// status after the first lines of the list, so that runs of earlier admissions are its own too.
+/// The peer takes the same lines for the values and must answer alike.
+pub fn history(
+    list: &[&[u8]],
+    answers: &Answers,
+    status_after: &mut dyn FnMut(usize) -> Result<Status, String>,
+) -> Result<History, String> {
+    let mut peer = Unit::new();
+    let mut admissions = Vec::new();
+    for (line, (text, &event)) in (1..).zip(list.iter().zip(&answers.events)) {
+        if peer.take(text) != event {
+            return Err(format!("line {line}: the program and the peer differ; see peer/check"));
+        }
+        let Ok(read) = read(text) else { continue };
+        let mark = Mark { line, year: read.year, month: read.month };
+        if event == Event::Passed {
+            admissions.push(Admission::new(mark));
+        }
+        let Some(admission) = admissions.last_mut() else { continue };
+        match event {
+            Event::Sample => admission.add(Sample { mark, values: *peer.values() }),
+            Event::ProbationByCharts => {
+                admission.add(Sample { mark, values: *peer.values() });
+                admission.end(mark, status_after(line)?);
+            }
+            Event::Missed => admission.misses.push(mark),
+            Event::ProbationByMisses => {
+                admission.misses.push(mark);
+                admission.probation = Some((mark, Ground::Misses));
+            }
+            _ => {}
+        }
+    }
+    if peer.status() != answers.status {
+        return Err("status: the program and the peer differ; see peer/check".into());
+    }
+    let (lines, status) = (list.len(), answers.status.clone());
+    Ok(History { lines, refused: refused(&answers.events), admissions, status })
+}
+
+impl Admission {
+    fn new(mark: Mark) -> Admission {
+        Admission { mark, stretches: Vec::new(), misses: Vec::new(), probation: None }
+    }
+
+    fn add(&mut self, sample: Sample) {
+        match self.stretches.last_mut() {
+            Some(stretch) if stretch.year() == sample.mark.year => stretch.samples.push(sample),
+            _ => self.stretches.push(Stretch { samples: vec![sample], over: Vec::new() }),
+        }
+    }
+
+    /// Probation by charts: the status right after it names them.
+    fn end(&mut self, mark: Mark, status: Status) {
+        self.probation = Some((mark, Ground::Charts));
+        if let Some(stretch) = self.stretches.last_mut() {
+            stretch.over = status.over;
+        }
+    }
+}
+
+fn refused(events: &[Event]) -> Vec<(Refusal, usize)> {
+    let times = |refusal| events.iter().filter(|&&event| event == Event::Refused(refusal)).count();
+    let counted = Refusal::ALL.iter().map(|&refusal| (refusal, times(refusal)));
+    counted.filter(|&(_, times)| times > 0).collect()
+}
+
+#[cfg(test)]
+pub mod tests {
+    use super::*;
+    use crate::charts::{limit, Run};
+    use crate::program::{lines, transcript};
+    use crate::view::answers::parse;
+
+    /// What a list came to, with the peer as the program.
+    pub fn of_case(input: &[u8]) -> History {
+        let list: Vec<&[u8]> = lines(input).collect();
+        let answers = |count: usize| parse(&transcript(&list[..count].join(&b'\n')), count);
+        let all = answers(list.len()).unwrap();
+        history(&list, &all, &mut |count| Ok(answers(count).unwrap().status)).unwrap()
+    }
+
+    #[test]
+    fn the_run_of_a_year_over_its_limit() {
+        let history = of_case(include_bytes!("../../cases/fat-over-limit.stdin"));
+        let [admission] = &history.admissions[..] else { panic!("one admission") };
+        let [stretch] = &admission.stretches[..] else { panic!("one stretch") };
+        assert_eq!((stretch.year(), stretch.samples.len()), (2013, 12));
+        assert_eq!(stretch.run(8), Some(Run { first: 1, last: 12, sum: 53 }));
+        assert_eq!(stretch.values(8).last(), Some(&53));
+        assert!((0..CHARTS).all(|chart| {
+            (stretch.run(chart).is_some())
+                == (*stretch.values(chart).last().unwrap() > limit(chart))
+        }));
+    }
+
+    #[test]
+    fn runs_of_an_earlier_admission_stay() {
+        let history = of_case(include_bytes!("../../cases/second-probation-by-misses.stdin"));
+        let [first, second] = &history.admissions[..] else { panic!("two admissions") };
+        assert_eq!(first.probation.map(|(_, ground)| ground), Some(Ground::Charts));
+        assert!(first.stretches[0].run(1).is_some());
+        assert_eq!(second.probation.map(|(_, ground)| ground), Some(Ground::Misses));
+        assert_eq!(second.stretches[0].samples.len(), 1);
+        assert!(history.status.over.is_empty());
+    }
+
+    #[test]
+    fn january_opens_a_stretch() {
+        let history = of_case(include_bytes!("../../cases/january.stdin"));
+        let years: Vec<u16> = history.admissions[0].stretches.iter().map(Stretch::year).collect();
+        assert_eq!(years, [2012, 2013]);
+        assert_eq!(history.admissions[0].stretches[1].run(0).map(|run| run.first), Some(1));
+    }
+}
