@@ -1,64 +1,65 @@
 -- Digits and bytes as lists: each is the other's inverse, and what stands at an index. Assumes nothing.
-use Prim.Native.Nat.{ℕ, zero, suc, _+_, _*_, _/_, _%_, _<_, _≤_}
+use Prim.Native.Nat.{ℕ, zero, suc, _+_, _*_, _/_, _%_, _<_}
 use mathlib.Core.Path.{_≡_, refl, sym, ap, _∙_}
-use mathlib.Core.Bool.{Bool, true, false, _&&_, and-false, and-assoc}
-use mathlib.Core.List.{List, [], _∷_, _++_, append-assoc}
+use mathlib.Core.Bool.{Bool, true, _&&_, and-true, and-assoc}
+use mathlib.Core.List.{List, [], _∷_, _++_, map, append-assoc}
 use native.Mathlib.Numerals.{add-one}
 use native.Mathlib.Omega.{arith}
-use lib.ListN.{length, getD, set, take, drop, length-append, length-drop}
+use lib.ListN.{length, getD, set, take, drop, length-append, length-map}
 use lib.Seq.{take-suc, drop-cons, append-snoc, set-at, length-take-le, ext-getD, getD-set-same, getD-set-other}
 use borrow.Author.Count.{below-more}
 use Rattle.laws.proofs.Bools.{and-both}
 use Rattle.line.specs.Digits.{isDigit, digitValue, digitOf, areDigits, bytesOf, digitsOf}
 use Rattle.line.proofs.DigitLaws.{value-lt, of-value, value-of, of-digit}
 
--- ---- the pair of digits 2 k and 2 k + 1: whether they are digits, and the byte that they write
+-- ---- the digits of a line in turn
 
-abbrev pub pairGood : List ℕ → ℕ → Bool
-pairGood l k = isDigit (getD l (2 * k) 0) && isDigit (getD l (2 * k + 1) 0)
+are-append : (xs ys : List ℕ) → areDigits (xs ++ ys) ≡ (areDigits xs && areDigits ys)
+unfolding areDigits
+are-append [] ys = refl
+are-append (c ∷ xs) ys = ap (λ (b : Bool). isDigit c && b) (are-append xs ys) ∙ sym (and-assoc (isDigit c) (areDigits xs) (areDigits ys))
+
+-- the first i are digits, and the next is one
+pub are-more : (l : List ℕ) (i : ℕ) → i < length l → (areDigits (take i l) && isDigit (getD l i 0)) ≡ areDigits (take (i + 1) l)
+unfolding areDigits
+are-more l i h =
+    let next : take (i + 1) l ≡ take i l ++ getD l i 0 ∷ [] = rw add-one (take-suc l i 0 h) in
+    sym (ap areDigits next ∙ are-append (take i l) (getD l i 0 ∷ []) ∙ ap (λ (b : Bool). areDigits (take i l) && b) (and-true (isDigit (getD l i 0))))
+
+-- each of them is one
+pub digit-at : (l : List ℕ) (k : ℕ) → areDigits l ≡ true → k < length l → isDigit (getD l k 0) ≡ true
+unfolding areDigits
+digit-at [] k e h = absurd (omega arith)
+digit-at (c ∷ l) zero e h = and-both (isDigit c) (areDigits l) e .0
+digit-at (c ∷ l) (suc k) e h = digit-at l k (and-both (isDigit c) (areDigits l) e .1) (omega arith)
+
+-- ---- what they stand for
+
+pub value-at : (l : List ℕ) (k : ℕ) → k < length l → getD (map digitValue l) k 0 ≡ digitValue (getD l k 0)
+value-at [] k h = absurd (omega arith)
+value-at (c ∷ l) zero h = refl
+value-at (c ∷ l) (suc k) h = value-at l k (omega arith)
+
+pub value-at-lt : (l : List ℕ) (k : ℕ) → areDigits l ≡ true → k < length l → getD (map digitValue l) k 0 < 16
+value-at-lt l k e h = rw (value-at l k h) (value-lt (getD l k 0) (digit-at l k e h))
+
+-- the values below i stand at their places
+abbrev pub ValuesTo : List ℕ → ℕ → List ℕ → Type 0
+ValuesTo l i values = (k : ℕ) → k < i → getD values k 0 ≡ digitValue (getD l k 0)
+
+pub values-are : (l values : List ℕ) → length values ≡ length l → ValuesTo l (length l) values → values ≡ map digitValue l
+values-are l values m h = ext-getD 0 values (map digitValue l) (m ∙ sym (length-map l digitValue)) (λ k p. h k (omega arith) ∙ sym (value-at l k (omega arith)))
+
+-- ---- the byte that digits 2 k and 2 k + 1 write
 
 abbrev pub pairAt : List ℕ → ℕ → ℕ
 pairAt l k = 16 * digitValue (getD l (2 * k) 0) + digitValue (getD l (2 * k + 1) 0)
 
--- f of a pair past the first is f of the pair that stands there in the rest
-pair-tail : {A : Type 0} (f : ℕ → ℕ → A) (c d : ℕ) (l : List ℕ) (k : ℕ)
-    → f (getD (c ∷ d ∷ l) (2 * suc k) 0) (getD (c ∷ d ∷ l) (2 * suc k + 1) 0) ≡ f (getD l (2 * k) 0) (getD l (2 * k + 1) 0)
-pair-tail f c d l k =
+pair-tail : (c d : ℕ) (l : List ℕ) (k : ℕ) → pairAt (c ∷ d ∷ l) (suc k) ≡ pairAt l k
+pair-tail c d l k =
     let e : 2 * suc k ≡ suc (suc (2 * k)) = omega arith in
     let g : 2 * suc k + 1 ≡ suc (suc (2 * k + 1)) = omega arith in
     rw (g, e)
-
-good-of : ℕ → ℕ → Bool
-good-of c d = isDigit c && isDigit d
-
-byte-of : ℕ → ℕ → ℕ
-byte-of c d = 16 * digitValue c + digitValue d
-
-good-tail : (c d : ℕ) (l : List ℕ) (k : ℕ) → pairGood (c ∷ d ∷ l) (suc k) ≡ pairGood l k
-unfolding good-of
-good-tail c d l k = pair-tail good-of c d l k
-
-byte-tail : (c d : ℕ) (l : List ℕ) (k : ℕ) → pairAt (c ∷ d ∷ l) (suc k) ≡ pairAt l k
-unfolding byte-of
-byte-tail c d l k = pair-tail byte-of c d l k
-
-pub all-good : (l : List ℕ) (n : ℕ) → length l ≡ 2 * n → ((k : ℕ) → k < n → pairGood l k ≡ true) → areDigits l ≡ true
-unfolding areDigits
-all-good [] n e h = refl
-all-good (c ∷ []) n e h = absurd (omega arith)
-all-good (c ∷ d ∷ l) zero e h = absurd (omega arith)
-all-good (c ∷ d ∷ l) (suc n) e h =
-    let p = and-both (isDigit c) (isDigit d) (h 0 (omega arith)) in
-    rw (p .0, p .1) (all-good l n (omega arith) (λ k q. sym (good-tail c d l k) ∙ h (suc k) (omega arith)))
-
-pub some-bad : (l : List ℕ) (k : ℕ) → 2 * k + 1 < length l → pairGood l k ≡ false → areDigits l ≡ false
-unfolding areDigits
-some-bad [] k p e = absurd (omega arith)
-some-bad (c ∷ []) k p e = absurd (omega arith)
-some-bad (c ∷ d ∷ l) zero p e = sym (and-assoc (isDigit c) (isDigit d) (areDigits l)) ∙ ap (λ (b : Bool). b && areDigits l) e
-some-bad (c ∷ d ∷ l) (suc k) p e =
-    let r = some-bad l k (omega arith) (sym (good-tail c d l k) ∙ e) in
-    rw (r, and-false (isDigit d), and-false (isDigit c))
 
 pub length-bytesOf : (l : List ℕ) (n : ℕ) → length l ≡ 2 * n → length (bytesOf l) ≡ n
 unfolding bytesOf
@@ -72,22 +73,20 @@ unfolding bytesOf
 bytesOf-at [] k p = absurd (omega arith)
 bytesOf-at (c ∷ []) k p = absurd (omega arith)
 bytesOf-at (c ∷ d ∷ l) zero p = refl
-bytesOf-at (c ∷ d ∷ l) (suc k) p = bytesOf-at l k (omega arith) ∙ sym (byte-tail c d l k)
+bytesOf-at (c ∷ d ∷ l) (suc k) p = bytesOf-at l k (omega arith) ∙ sym (pair-tail c d l k)
 
 pub bytes-are : (l bytes : List ℕ) (n : ℕ) → length l ≡ 2 * n → length bytes ≡ n → ((k : ℕ) → k < n → getD bytes k 0 ≡ pairAt l k) → bytes ≡ bytesOf l
 bytes-are l bytes n e m h =
     ext-getD 0 bytes (bytesOf l) (m ∙ sym (length-bytesOf l n e)) (λ k p. h k (omega arith) ∙ sym (bytesOf-at l k (omega arith)))
 
--- ---- the loop that reads the pairs in turn: what it knows of those below i
+-- ---- a loop that puts one entry after the other, each by the rule f
 
-abbrev pub ReadTo : List ℕ → ℕ → List ℕ → Type 0
-ReadTo l i bytes = (k : ℕ) → k < i → (pairGood l k ≡ true) × (getD bytes k 0 ≡ pairAt l k)
-
-pub read-more : (l bytes : List ℕ) (i b : ℕ) → i < length bytes → ReadTo l i bytes → pairGood l i ≡ true → b ≡ pairAt l i → ReadTo l (i + 1) (set bytes i b)
-read-more l bytes i b p h g e =
-    below-more (λ (k : ℕ). (pairGood l k ≡ true) × (getD (set bytes i b) k 0 ≡ pairAt l k)) i
-    (λ k q. (h k q .0, getD-set-other bytes i k b 0 (λ (s : k ≡ i). omega arith) ∙ h k q .1))
-    (g, getD-set-same bytes i b 0 p ∙ e)
+pub entry-more : (f : ℕ → ℕ) (xs : List ℕ) (i x : ℕ) → i < length xs → ((k : ℕ) → k < i → getD xs k 0 ≡ f k) → x ≡ f i
+    → (k : ℕ) → k < i + 1 → getD (set xs i x) k 0 ≡ f k
+entry-more f xs i x p h e =
+    below-more (λ (k : ℕ). getD (set xs i x) k 0 ≡ f k) i
+    (λ k q. getD-set-other xs i k x 0 (λ (s : k ≡ i). omega arith) ∙ h k q)
+    (getD-set-same xs i x 0 p ∙ e)
 
 -- ---- inverse
 
@@ -148,10 +147,6 @@ bytesOf-are (c ∷ d ∷ l) h =
 
 abbrev pub writtenTo : List ℕ → List ℕ → ℕ → List ℕ
 writtenTo bytes buffer i = digitsOf (take i bytes) ++ drop (2 * i) buffer
-
-pub length-writtenTo : (bytes buffer : List ℕ) (i : ℕ) → i ≤ length bytes → 2 * i ≤ length buffer → length (writtenTo bytes buffer i) ≡ length buffer
-length-writtenTo bytes buffer i h k =
-    simp (length-append, length-digitsOf, length-take-le, length-drop) (omega arith)
 
 two-more : (x y : ℕ) (D ys : List ℕ) (n h l : ℕ) → length D ≡ n → set (set (D ++ x ∷ y ∷ ys) n h) (n + 1) l ≡ D ++ (h ∷ l ∷ []) ++ ys
 two-more x y D ys n h l e =

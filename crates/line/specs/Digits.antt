@@ -1,6 +1,6 @@
 -- Document 01, "The line": lowercase hexadecimal digits, two to a byte, the high one first. A digit is given by its character's number.
 use Prim.Native.Nat.{ℕ, _+_, _-_, _*_, _/_, _%_}
-use mathlib.Core.Bool.{Bool, true, false, cond, _&&_, _||_}
+use mathlib.Core.Bool.{Bool, true, cond, _&&_, _||_}
 use mathlib.Core.List.{List, [], _∷_}
 use lib.Dec.{leb, ltb}
 use Rattle.line.specs.declared.digits.Hex.{Hex}
@@ -13,11 +13,6 @@ isDigit c = (leb 48 c && leb c 57) || (leb 97 c && leb c 102)
 -- what a digit stands for
 unfoldable pub digitValue : ℕ → ℕ
 digitValue c = cond (leb c 57) (c - 48) (c - 87)
-
--- what a character is: a digit with its value, or no digit
-unfoldable pub digitIn : ℕ → Hex
-unfolding isDigit digitValue
-digitIn c = cond (isDigit c) (Value (digitValue c)) Bad
 
 -- what two characters are: the byte that they write, or no two digits
 unfoldable pub byteIn : ℕ → ℕ → Hex

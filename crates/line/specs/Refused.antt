@@ -1,8 +1,8 @@
 -- Document 01, "Refused": rows 1 to 7 and 13 of the table, each a test that is true where the row fits.
-use Prim.Native.Nat.{ℕ, _+_, _*_, _/_, _%_}
-use mathlib.Core.Bool.{Bool, true, false, cond, not, _&&_, _||_}
+use Prim.Native.Nat.{ℕ, _/_, _%_}
+use mathlib.Core.Bool.{Bool, false, cond, not, _&&_, _||_}
 use mathlib.Core.List.{List, [], _∷_}
-use lib.Dec.{leb, ltb, eqb}
+use lib.Dec.{ltb, eqb}
 use lib.Ieee.{binary32, ofBits}
 use Rattle.line.specs.Fields.{PERCENT, LOST}
 use Rattle.line.specs.Percent.{accepted}
@@ -50,13 +50,27 @@ unfoldable pub rowFits : ℕ → List Row → Bool
 rowFits n [] = false
 rowFits n (r ∷ rows) = (eqb (r .number) n && r .fits) || rowFits n rows
 
+-- the kinds of a line
+abbrev pub MAINTENANCE : ℕ
+MAINTENANCE = 1
+
+abbrev pub STUDY : ℕ
+STUDY = 2
+
 -- kind: not 01 or 02
 unfoldable pub kindRow : ℕ → Bool
-kindRow kind = not (eqb kind 1 || eqb kind 2)
+kindRow kind = not (eqb kind MAINTENANCE || eqb kind STUDY)
+
+-- the years of a line
+abbrev pub FIRST-YEAR : ℕ
+FIRST-YEAR = 2000
+
+abbrev pub LAST-YEAR : ℕ
+LAST-YEAR = 2099
 
 -- date: year or month outside
 unfoldable pub dateRow : ℕ → ℕ → Bool
-dateRow year month = ltb year 2000 || ltb 2099 year || ltb month 1 || ltb 12 month
+dateRow year month = ltb year FIRST-YEAR || ltb LAST-YEAR year || ltb month 1 || ltb 12 month
 
 -- bits 0 and 1 of the product
 abbrev pub classOf : ℕ → ℕ
@@ -74,13 +88,20 @@ productRow product = not (eqb (product / 4 % 32) 0) || (isDry product && not (eq
 abbrev pub MOST : ℕ
 MOST = 10000
 
+-- the least mean of protein, and of ground beef's fat
+abbrev pub LEAST-PROTEIN : ℕ
+LEAST-PROTEIN = 5
+
+abbrev pub LEAST-BEEF-FAT : ℕ
+LEAST-BEEF-FAT = 1250
+
 -- mean: above 10000; protein below 5; fat 0; class 1 fat below 1250
 unfoldable pub meanRow : ℕ → Means → Bool
 meanRow product m =
     (ltb MOST (m .moisture) || ltb MOST (m .protein) || ltb MOST (m .fat) || ltb MOST (m .salt))
-    || ltb (m .protein) 5
+    || ltb (m .protein) LEAST-PROTEIN
     || eqb (m .fat) 0
-    || (eqb (classOf product) 1 && ltb (m .fat) 1250)
+    || (eqb (classOf product) 1 && ltb (m .fat) LEAST-BEEF-FAT)
 
 -- reading: tag above 02, nonzero bytes under 01 or 02, percent not accepted
 unfoldable pub readingRow : Tagged → Bool

@@ -2,52 +2,40 @@
 
 ghost use mathlib.Core.Path.{_≡_};
 ghost use mathlib.Core.Bool.{true};
-ghost use mathlib.Core.List.{_++_};
+ghost use mathlib.Core.List.{_++_, map};
 ghost use Prim.Native.Nat.{_<_, _≤_, _/_, _%_};
 ghost use lib.ListN.{length, drop};
-ghost use Rattle.line.specs.Digits.{digitIn, byteIn, digitOf, areDigits, bytesOf, digitsOf};
+ghost use Rattle.line.specs.Digits.{isDigit, digitValue, byteIn, digitOf, areDigits, bytesOf, digitsOf};
 
-// What one or two characters are: the number that they write, or no digits.
+// What two characters are: the byte that they write, or no two digits.
 pub enum Hex {
     Value(u8),
     Bad,
 }
 
-// The 34 bytes that a line's digits write, if all are digits.
-pub struct Bytes {
-    pub good: bool,
-    pub bytes: [u8; 34],
-}
-
-fn digit_in(c: u8) -> Hex
-    ensures { λ r. ⌜ r ≡ digitIn c ⌝ }
+fn is_digit(c: u8) -> bool
+    ensures { λ r. ⌜ r ≡ isDigit c ⌝ }
 {
-    if c < b'0' {
-        return Hex::Bad;
-    }
-    if c <= b'9' {
-        return Hex::Value(c - b'0');
-    }
-    if c < b'a' {
-        return Hex::Bad;
-    }
-    if c <= b'f' {
-        return Hex::Value(c - b'a' + 10);
-    }
-    Hex::Bad
+    ((b'0' <= c) & (c <= b'9')) | ((b'a' <= c) & (c <= b'f'))
 }
 
-// What two characters are.
+// What a digit stands for.
+fn value_of(c: u8) -> u8
+    requires { ⌜ isDigit c ≡ true ⌝ }
+    ensures { λ r. ⌜ r ≡ digitValue c ⌝ }
+{
+    if c <= b'9' { c - b'0' } else { c - b'a' + 10 }
+}
+
 pub fn byte_in(high: u8, low: u8) -> Hex
     ensures { λ r. ⌜ r ≡ byteIn high low ⌝ }
 {
-    let Hex::Value(h) = digit_in(high) else {
-        return Hex::Bad;
-    };
-    let Hex::Value(l) = digit_in(low) else {
-        return Hex::Bad;
-    };
-    Hex::Value(16 * h + l)
+    if is_digit(high) {
+        if is_digit(low) {
+            return Hex::Value(16 * value_of(high) + value_of(low));
+        }
+    }
+    Hex::Bad
 }
 
 fn digit_of(n: u8) -> u8
@@ -57,34 +45,60 @@ fn digit_of(n: u8) -> u8
     if n < 10 { b'0' + n } else { b'a' + (n - 10) }
 }
 
-fn high_digit(b: u8) -> u8
+// The digits of a byte.
+pub fn high_digit(b: u8) -> u8
     ensures { λ r. ⌜ r ≡ digitOf (b / 16) ⌝ }
 {
     digit_of(b >> 4)
 }
 
-fn low_digit(b: u8) -> u8
+pub fn low_digit(b: u8) -> u8
     ensures { λ r. ⌜ r ≡ digitOf (b % 16) ⌝ }
 {
     digit_of(b & 15)
 }
 
-// The bytes of a line of 68 characters, in one pass that ends at the first that is no digit.
-pub fn bytes_of(line: &[u8]) -> Bytes
-    requires { ⌜ length (now line) ≡ 68 ⌝ }
-    ensures good { λ r. ⌜ r .good ≡ areDigits (now (line .entry)) ⌝ }
-    ensures bytes { λ r. ⌜ (r .good ≡ true → r .bytes ≡ bytesOf (now (line .entry))) ⌝ }
+// Whether all characters are digits. No turn depends on the one before, so that many are looked at
+// at once.
+pub fn are_digits(line: &[u8]) -> bool
+    ensures { λ r. ⌜ r ≡ areDigits (now (line .entry)) ⌝ }
 {
+    let mut good = true;
+    let mut i = 0;
+    while i < line.len() {
+        good = good & is_digit(line[i]);
+        i += 1;
+    }
+    good
+}
+
+// What each of 68 digits stands for.
+fn values_of(line: &[u8]) -> [u8; 68]
+    requires { ⌜ (length (now line) ≡ 68) × (areDigits (now line) ≡ true) ⌝ }
+    ensures { λ r. ⌜ r ≡ map digitValue (now (line .entry)) ⌝ }
+{
+    let mut values = [0u8; 68];
+    let mut i = 0;
+    while i < 68 {
+        values[i] = value_of(line[i]);
+        i += 1;
+    }
+    values
+}
+
+// The bytes of a line of 68 digits.
+pub fn bytes_of(line: &[u8]) -> [u8; 34]
+    requires { ⌜ (length (now line) ≡ 68) × (areDigits (now line) ≡ true) ⌝ }
+    ensures { λ r. ⌜ r ≡ bytesOf (now (line .entry)) ⌝ }
+{
+    let values = values_of(line);
     let mut bytes = [0u8; 34];
     let mut i = 0;
     while i < 34 {
-        let Hex::Value(b) = byte_in(line[2 * i], line[2 * i + 1]) else {
-            return Bytes { good: false, bytes };
-        };
-        bytes[i] = b;
+        bytes[i] = 16 * values[2 * i] + values[2 * i + 1];
         i += 1;
     }
-    Bytes { good: true, bytes }
+    bytes
 }
 
 // The digits of 34 bytes, put at the start of a buffer.

@@ -8,8 +8,11 @@ pub mod refusal;
 mod rows;
 
 pub use digits::Hex;
+use digits::are_digits;
 pub use digits::byte_in;
 use digits::bytes_of;
+pub use digits::high_digit;
+pub use digits::low_digit;
 use digits::put;
 use fields::bytes_in;
 use fields::fields_in;
@@ -24,6 +27,9 @@ use record::Written;
 use refusal::DIGIT;
 use refusal::LENGTH;
 use refusal::SHORT;
+pub use rows::LEAST_BEEF_FAT;
+pub use rows::LEAST_PROTEIN;
+pub use rows::MOST;
 use rows::first_row;
 pub use rows::product_row;
 ghost use mathlib.Core.Path.{_≡_};
@@ -44,12 +50,10 @@ pub fn read(line: &[u8]) -> Read
     if line.len() != DIGITS {
         return Read::Refused(LENGTH);
     }
-    let found = bytes_of(line);
-    if !found.good {
+    if !are_digits(line) {
         return Read::Refused(DIGIT);
     }
-    let bytes = found.bytes;
-    let fields = fields_in(bytes);
+    let fields = fields_in(bytes_of(line));
     let row = first_row(fields);
     if row != 0 {
         return Read::Refused(row);

@@ -1,5 +1,10 @@
 // What a line holds.
 
+// The kinds of a line.
+pub const MAINTENANCE: u8 = 1;
+
+pub const STUDY: u8 = 2;
+
 // A reading of the analyser: a percent, nothing found, or lost.
 pub enum Reading {
     Percent(f32),

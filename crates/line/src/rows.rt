@@ -5,7 +5,9 @@ use crate::fields::LOST;
 use crate::fields::PERCENT;
 use crate::fields::Tagged;
 use crate::percent::HUNDRED;
+use crate::record::MAINTENANCE;
 use crate::record::Means;
+use crate::record::STUDY;
 use crate::refusal::DATE;
 use crate::refusal::KIND;
 use crate::refusal::MEAN;
@@ -15,12 +17,17 @@ ghost use mathlib.Core.Path.{_≡_};
 ghost use Rattle.line.specs.Refused.{firstRow, rowsOf, fieldRows, kindRow, dateRow, productRow, meanRow, readingRow};
 
 // The highest mean: a hundred percent, in hundredths.
-const MOST: u16 = 10000;
+pub const MOST: u16 = 10000;
+
+// The least mean of protein, and of ground beef's fat.
+pub const LEAST_PROTEIN: u16 = 5;
+
+pub const LEAST_BEEF_FAT: u16 = 1250;
 
 fn kind_row(kind: u8) -> bool
     ensures { λ r. ⌜ r ≡ kindRow kind ⌝ }
 {
-    !((kind == 1) | (kind == 2))
+    !((kind == MAINTENANCE) | (kind == STUDY))
 }
 
 fn date_row(year: u16, month: u8) -> bool
@@ -40,9 +47,9 @@ fn mean_row(product: u8, m: Means) -> bool
     ensures { λ r. ⌜ r ≡ meanRow product m ⌝ }
 {
     ((MOST < m.moisture) | (MOST < m.protein) | (MOST < m.fat) | (MOST < m.salt))
-        | (m.protein < 5)
+        | (m.protein < LEAST_PROTEIN)
         | (m.fat == 0)
-        | ((product & 3 == 1) & (m.fat < 1250))
+        | ((product & 3 == 1) & (m.fat < LEAST_BEEF_FAT))
 }
 
 fn reading_row(t: Tagged) -> bool

@@ -15,26 +15,29 @@ use Rattle.line.proofs.ReadLaws.{refused-length, refused-digit, refused
 use Rattle.line.proofs.read.Statement.{statement}
 use Rattle.line.proofs.read.Tie as tie
 
-good : (c : tie.Else2) → areDigits (now (c .before .before .before .before .before .args .line)) ≡ true
-good c = sym (c .before .before .bytes-of .ensures .0) ∙ not-false _ (c .if2 .left)
+good : (c : tie.Else2) → areDigits (now (c .before .before .before .before .args .line)) ≡ true
+good c = sym (c .before .are-digits .ensures) ∙ not-false _ (c .if2 .left)
 
-fields-are : (c : tie.After-fields-in) → c .fields-in .result ≡ fieldsAt (now (c .before .before .before .before .before .before .before .args .line))
-fields-are c = c .fields-in .ensures ∙ ap fieldsIn (c .before .before .before .before .bytes-of .ensures .1 (not-false _ (c .before .before .if2 .left)))
+fields-are : (c : tie.After-fields-in) → c .fields-in .result ≡ fieldsAt (now (c .before .before .before .before .before .before .args .line))
+fields-are c = c .fields-in .ensures ∙ ap fieldsIn (c .before .bytes-of .ensures)
 
-long : (c : tie.After-first-row) → length (now (c .before .before .before .before .before .before .before .before .args .line)) ≡ 68
-long c = c .before .before .before .before .before .before .if1 .left
+long : (c : tie.After-first-row) → length (now (c .before .before .before .before .before .before .before .args .line)) ≡ 68
+long c = c .before .before .before .before .before .if1 .left
 
-row : (c : tie.After-first-row) → c .first-row .result ≡ firstRow (fieldRows (fieldsAt (now (c .before .before .before .before .before .before .before .before .args .line))))
+row : (c : tie.After-first-row) → c .first-row .result ≡ firstRow (fieldRows (fieldsAt (now (c .before .before .before .before .before .before .before .args .line))))
 row c = c .first-row .ensures ∙ ap (λ (f : Fields). firstRow (fieldRows f)) (fields-are (c .before))
 
 returns : tie.Need-returns
 returns c = sym (refused-length _ (c .if1 .taken))
 
-bytes-of-requires : tie.Need-bytes-of-requires
-bytes-of-requires c κs = search needs
+are-digits-requires : tie.Need-are-digits-requires
+are-digits-requires c κs = search needs
 
 returns-2 : tie.Need-returns-2
-returns-2 c = sym (refused-digit _ (c .before .before .before .if1 .left) (sym (c .before .before .bytes-of .ensures .0) ∙ not-true _ (c .if2 .taken)))
+returns-2 c = sym (refused-digit _ (c .before .before .if1 .left) (sym (c .before .are-digits .ensures) ∙ not-true _ (c .if2 .taken)))
+
+bytes-of-requires : tie.Need-bytes-of-requires
+bytes-of-requires c κs = (c .before .before .if1 .left, good c)
 
 fields-in-requires : tie.Need-fields-in-requires
 fields-in-requires c κs = search needs
@@ -43,7 +46,7 @@ first-row-requires : tie.Need-first-row-requires
 first-row-requires c κs = search needs
 
 returns-3 : tie.Need-returns-3
-returns-3 c = sym (refused-row _ _ (long (c .before)) (good ((c .before) .before .before .before)) (row (c .before)) (c .if3 .taken))
+returns-3 c = sym (refused-row _ _ (long (c .before)) (good (c .before .before .before .before)) (row (c .before)) (c .if3 .taken))
 
 record-of-requires : tie.Need-record-of-requires
 record-of-requires c κs = search needs
@@ -55,4 +58,15 @@ returns-4 c =
     ∙ sym (read-whole _ (long at) (good (at .before .before .before)) (sym (row at) ∙ c .before .if3 .left))
 
 pub read-spec : {M : Type 1} → statement M
-read-spec = tie.close (tie.spec returns bytes-of-requires returns-2 fields-in-requires first-row-requires returns-3 record-of-requires returns-4)
+read-spec =
+    tie.close
+    (tie.spec
+    returns
+    are-digits-requires
+    returns-2
+    bytes-of-requires
+    fields-in-requires
+    first-row-requires
+    returns-3
+    record-of-requires
+    returns-4)

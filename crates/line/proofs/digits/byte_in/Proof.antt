@@ -1,64 +1,60 @@
--- `byte_in` meets its contract, by what `digit_in` found in each place. Assumes nothing.
+-- `byte_in` meets its contract, by what `is_digit` says of each place. Assumes nothing.
 use borrow.Author.Needs.{needs}
-use mathlib.Core.Path.{_≡_, sym, _∙_}
+use mathlib.Core.Path.{_≡_, sym, ap₂, _∙_}
+use mathlib.Core.Bool.{true}
+use Prim.Native.Nat.{ℕ, _+_, _*_}
 use native.Mathlib.Omega.{arith}
-use Rattle.line.specs.Digits.{digitIn}
+use Rattle.line.specs.Digits.{isDigit}
 use Rattle.line.specs.declared.digits.Hex.the-variants.{Value}
-use Rattle.line.proofs.DigitLaws.{high-bad, low-bad, both-good, digit-lt}
+use Rattle.line.proofs.DigitLaws.{high-bad, low-bad, both-good, value-lt}
 use Rattle.line.proofs.digits.byte_in.Statement.{statement}
 use Rattle.line.proofs.digits.byte_in.Tie as tie
 
-high-is : (c : tie.After-h) → digitIn (c .before .before .before .args .high) ≡ Value (c .h .given .0 .0)
-high-is c = sym (c .before .before .digit-in .ensures) ∙ c .h .given .1
+high-is : (c : tie.Then2) → isDigit (c .before .before .before .before .args .high) ≡ true
+high-is c = sym (c .before .before .before .is-digit .ensures) ∙ c .before .before .if1 .taken
 
-low-is : (c : tie.After-l) → digitIn (c .before .before .before .before .before .before .before .args .low) ≡ Value (c .l .given .0 .0)
-low-is c = sym (c .before .before .digit-in2 .ensures) ∙ c .l .given .1
+low-is : (c : tie.Then2) → isDigit (c .before .before .before .before .args .low) ≡ true
+low-is c = sym (c .before .is-digit2 .ensures) ∙ c .if2 .taken
 
-digit-in-requires : tie.Need-digit-in-requires
-digit-in-requires c κs = search needs
+is-digit-requires : tie.Need-is-digit-requires
+is-digit-requires c κs = search needs
 
-enum-known-h : tie.Need-enum-known-h
-enum-known-h c = search needs
+is-digit-requires-2 : tie.Need-is-digit-requires-2
+is-digit-requires-2 c κs = search needs
 
-enum-told : tie.Need-enum-told
-enum-told c = search needs
+value-of-requires : tie.Need-value-of-requires
+value-of-requires c κs = high-is c
 
-returns : tie.Need-returns
-returns c = sym (high-bad _ _ (sym (c .before .before .digit-in .ensures) ∙ c .enum-told .given .1))
+mul-t6 : tie.Need-mul-t6
+mul-t6 c = omega (arith, c .value-of .ensures, value-lt _ (high-is (c .before)))
 
-digit-in-requires-2 : tie.Need-digit-in-requires-2
-digit-in-requires-2 c κs = search needs
-
-enum-known-l : tie.Need-enum-known-l
-enum-known-l c = search needs
-
-enum-told-2 : tie.Need-enum-told-2
-enum-told-2 c = search needs
-
-returns-2 : tie.Need-returns-2
-returns-2 c = sym (low-bad _ _ (sym (c .before .before .digit-in2 .ensures) ∙ c .enum-told2 .given .1))
-
-mul-t7 : tie.Need-mul-t7
-mul-t7 c = omega (arith, digit-lt _ _ (high-is (c .before .before .before .before .before)))
+value-of-requires-2 : tie.Need-value-of-requires-2
+value-of-requires-2 c κs = low-is (c .before)
 
 add-t8 : tie.Need-add-t8
-add-t8 c = omega (arith, digit-lt _ _ (high-is (c .before .before .before .before .before)), digit-lt _ _ (low-is (c .before)))
+add-t8 c = omega (arith, c .before .value-of .ensures, c .value-of2 .ensures, value-lt _ (high-is (c .before .before)), value-lt _ (low-is (c .before .before)))
+
+returns : tie.Need-returns
+returns c =
+    ap₂ (λ (h l : ℕ). Value (16 * h + l)) (c .before .value-of .ensures) (c .value-of2 .ensures)
+    ∙ sym (both-good _ _ (high-is (c .before .before)) (low-is (c .before .before)))
+
+returns-2 : tie.Need-returns-2
+returns-2 c = sym (low-bad _ _ (sym (c .before .is-digit2 .ensures) ∙ c .if2 .left))
 
 returns-3 : tie.Need-returns-3
-returns-3 c = sym (both-good _ _ _ _ (high-is (c .before .before .before .before .before)) (low-is (c .before)))
+returns-3 c = sym (high-bad _ _ (sym (c .before .is-digit .ensures) ∙ c .if1 .left))
 
 pub byte-in-spec : {M : Type 1} → statement M
 byte-in-spec =
     tie.close
     (tie.spec
-    digit-in-requires
-    enum-known-h
-    enum-told
-    returns
-    digit-in-requires-2
-    enum-known-l
-    enum-told-2
-    returns-2
-    mul-t7
+    is-digit-requires
+    is-digit-requires-2
+    value-of-requires
+    mul-t6
+    value-of-requires-2
     add-t8
+    returns
+    returns-2
     returns-3)

@@ -1,54 +1,53 @@
--- `bytes_of` meets its contract. The loop's invariant: each pair below i is two digits, and its byte stands at its place. Assumes nothing.
+-- `bytes_of` meets its contract. The loop's invariant: the bytes below i stand at their places. Assumes nothing.
 use borrow.Author.Needs.{needs}
-use mathlib.Core.Path.{_≡_, refl, sym, _∙_}
-use mathlib.Core.Bool.{true, false, false≢true}
+use mathlib.Core.Path.{_≡_, refl, ap₂}
 use native.Mathlib.Omega.{arith}
-use Prim.Native.Nat.{_-_, _≤_}
+use Prim.Native.Nat.{ℕ, _-_, _≤_, _<_, _*_, _+_}
 use denote.Ref.{now}
-use lib.ListN.{length, length-set}
-use Rattle.line.proofs.ByteLaws.{ReadTo, read-more, all-good, some-bad, bytes-are}
-use Rattle.line.proofs.DigitLaws.{byte-is-value, byte-is-bad}
+use lib.ListN.{length, length-set, getD}
+use Rattle.line.specs.Digits.{digitValue}
+use Rattle.line.proofs.ByteLaws.{pairAt, value-at, value-at-lt, entry-more, bytes-are}
 use Rattle.line.proofs.digits.bytes_of.Statement.{statement}
 use Rattle.line.proofs.digits.bytes_of.Tie as tie
 
 abbrev Inv-loop : tie.InvT-loop
-Inv-loop line bytes₀ i₀ bytes i = (i ≤ 34) × (length bytes ≡ 34) × ReadTo line i bytes
+Inv-loop line values bytes₀ i₀ bytes i = (i ≤ 34) × (length bytes ≡ 34) × ((k : ℕ) → k < i → getD bytes k 0 ≡ pairAt line k)
 
 abbrev μ-loop : tie.MeasureT-loop
-μ-loop line bytes₀ i₀ bytes i = 34 - i
+μ-loop line values bytes₀ i₀ bytes i = 34 - i
+
+-- a value is below 16
+below : (c : tie.In-loop Inv-loop μ-loop) (k : ℕ) → k < 68 → getD (c .before .before .values-of .result) k 0 < 16
+below c k h =
+    let pre = c .before .before .before .before .pre in
+    rw (c .before .before .values-of .ensures) (value-at-lt _ k (pre .1) (omega (arith, pre .0)))
+
+values-of-requires : tie.Need-values-of-requires Inv-loop μ-loop
+values-of-requires c κs = search needs
 
 loop-holds : tie.Need-loop-holds Inv-loop μ-loop
 loop-holds c = (search needs, refl, λ k p. absurd (omega arith))
 
-mul-byte-in : tie.Need-mul-byte-in Inv-loop μ-loop
-mul-byte-in c = search needs
+mul-bytes : tie.Need-mul-bytes Inv-loop μ-loop
+mul-bytes c = search needs
 
-shared-slice-read-byte-in : tie.Need-shared-slice-read-byte-in Inv-loop μ-loop
-shared-slice-read-byte-in c = search needs
+array-read-bytes : tie.Need-array-read-bytes Inv-loop μ-loop
+array-read-bytes c = search needs
 
-mul-byte-in-2 : tie.Need-mul-byte-in-2 Inv-loop μ-loop
-mul-byte-in-2 c = search needs
+mul-bytes-2 : tie.Need-mul-bytes-2 Inv-loop μ-loop
+mul-bytes-2 c = omega (arith, below c (2 * c .before .loop .i) (omega arith))
 
-add-byte-in : tie.Need-add-byte-in Inv-loop μ-loop
-add-byte-in c = search needs
+mul-bytes-3 : tie.Need-mul-bytes-3 Inv-loop μ-loop
+mul-bytes-3 c = search needs
 
-shared-slice-read-byte-in-2 : tie.Need-shared-slice-read-byte-in-2 Inv-loop μ-loop
-shared-slice-read-byte-in-2 c = search needs
+add-bytes : tie.Need-add-bytes Inv-loop μ-loop
+add-bytes c = search needs
 
-byte-in-requires : tie.Need-byte-in-requires Inv-loop μ-loop
-byte-in-requires c κs = search needs
+array-read-bytes-2 : tie.Need-array-read-bytes-2 Inv-loop μ-loop
+array-read-bytes-2 c = search needs
 
-enum-known-b : tie.Need-enum-known-b Inv-loop μ-loop
-enum-known-b c = search needs
-
-enum-told : tie.Need-enum-told Inv-loop μ-loop
-enum-told c = search needs
-
-returns : tie.Need-returns Inv-loop μ-loop
-returns c = (
-  sym (some-bad _ (c .before .before .before .before .before .before .loop .i) (omega arith) (byte-is-bad _ _ (sym (c .before .before .byte-in .ensures) ∙ c .enum-told .given .1))),
-  λ e. absurd (false≢true e),
-)
+add-bytes-2 : tie.Need-add-bytes-2 Inv-loop μ-loop
+add-bytes-2 c = omega (arith, below c (2 * c .before .loop .i) (omega arith), below c (2 * c .before .loop .i + 1) (omega arith))
 
 array-write-bytes : tie.Need-array-write-bytes Inv-loop μ-loop
 array-write-bytes c = search needs
@@ -61,16 +60,18 @@ loop-less c = omega arith
 
 loop-again : tie.Need-loop-again Inv-loop μ-loop
 loop-again c =
-    let at = c .before .before .before .before .before .before .before .loop in
-    let found = byte-is-value _ _ _ (sym (c .before .before .before .byte-in .ensures) ∙ c .before .b .given .1) in
-    (omega arith, simp length-set (at .inv .1), read-more (now (c .before .before .before .before .before .before .before .before .before .args .line)) (at .bytes) (at .i) _ (omega arith) (at .inv .2) (found .0) (found .1))
-
-returns-2 : tie.Need-returns-2 Inv-loop μ-loop
-returns-2 c =
     let at = c .before .loop in
-    let every : at .i ≡ 34 = omega arith in
-    let line = c .before .before .before .pre in
-    (sym (all-good _ 34 line (λ k p. at .inv .2 k (omega arith) .0)), λ e. bytes-are _ _ 34 line (at .inv .1) (λ k p. at .inv .2 k (omega arith) .1))
+    let line = now (c .before .before .before .before .args .line) in
+    let long = c .before .before .before .before .pre .0 in
+    let value : (k : ℕ) → k < length line → getD (c .before .before .values-of .result) k 0 ≡ digitValue (getD line k 0) =
+    λ k h. rw (c .before .before .values-of .ensures) (value-at line k h) in
+    let byte = ap₂ (λ (h l : ℕ). 16 * h + l) (value (2 * at .i) (omega arith)) (value (2 * at .i + 1) (omega arith)) in
+    (omega arith, simp length-set (at .inv .1), entry-more (pairAt line) (at .bytes) (at .i) _ (omega arith) (at .inv .2) byte)
+
+returns : tie.Need-returns Inv-loop μ-loop
+returns c =
+    let at = c .before .loop in
+    bytes-are _ _ 34 (c .before .before .before .before .pre .0) (at .inv .1) (λ k p. at .inv .2 k (omega arith))
 
 pub bytes-of-spec : {M : Type 1} → statement M
 bytes-of-spec =
@@ -78,18 +79,17 @@ bytes-of-spec =
     (tie.spec
     Inv-loop
     μ-loop
+    values-of-requires
     loop-holds
-    mul-byte-in
-    shared-slice-read-byte-in
-    mul-byte-in-2
-    add-byte-in
-    shared-slice-read-byte-in-2
-    byte-in-requires
-    enum-known-b
-    enum-told
-    returns
+    mul-bytes
+    array-read-bytes
+    mul-bytes-2
+    mul-bytes-3
+    add-bytes
+    array-read-bytes-2
+    add-bytes-2
     array-write-bytes
     add-i
     loop-less
     loop-again
-    returns-2)
+    returns)
