@@ -16,7 +16,7 @@ use Rattle.line.specs.Digits.{isDigit, digitValue, digitOf, areDigits, bytesOf,
 use Rattle.line.specs.Fields.{PERCENT, LOST, bytesIn, readingOf}
 use Rattle.line.specs.Percent.{accepted, hundredthsOf, amountOf}
 use Rattle.line.specs.Read.{readBy, readOf}
-use Rattle.line.specs.Refused.{firstRow, kindRow, dateRow, productRow, meanRow, readingRow}
+use Rattle.line.specs.Refused.{firstRow, kindRow, dateRow, productRow, meanRow, readingRow, MAINTENANCE, STUDY}
 use Rattle.line.specs.declared.fields.Tagged.{Tagged}
 use Rattle.unit.specs.Claim.{history, since, openedIn, CHARTS, limit, entriesOf, shownAt, ClaimOf}
 use Rattle.unit.specs.Contribution.{incrementOf, variableOf, measureOf}
@@ -25,7 +25,7 @@ use Rattle.unit.specs.Largest.{rootFrom}
 use Rattle.unit.specs.Reached.{replay}
 use Rattle.unit.specs.Status.{statusOf}
 use Rattle.unit.specs.Study.{passesOf}
-use Rattle.unit.specs.Take.{MAINTENANCE, STUDY, recordOf, takenOf}
+use Rattle.unit.specs.Take.{recordOf, takenOf}
 use Rattle.unit.proofs.Claimed.{claim-holds}
 
 -- ---- the lines

@@ -9,14 +9,14 @@ use lib.Dec.{eqb, eqb→eq}
 use lib.ListN.{getD}
 use Rattle.laws.proofs.Table.{at}
 use Rattle.unit.specs.declared.coefficient.Power.the-variants.{Q}
-use Rattle.line.specs.Refused.{classOf}
+use Rattle.line.specs.Refused.{MOST, classOf}
 use Rattle.unit.specs.Difference.{_times_, fat, salt, coefficientFor}
 
 unfoldable pub coefficients : List ℕ
 coefficients = 500 ∷ 60 ∷ 300 ∷ 127 ∷ 710 ∷ 60 ∷ 350 ∷ 127 ∷ 570 ∷ 60 ∷ 300 ∷ 127 ∷ 570 ∷ 60 ∷ 300 ∷ 127 ∷ []
 
 abbrev pub highest : ℕ → ℕ → ℕ
-highest class analyte = coefficientFor class false analyte 10000 .thousandths
+highest class analyte = coefficientFor class false analyte MOST .thousandths
 
 test : ℕ → ℕ → Bool
 test i k = eqb k (highest (i / 4) (i % 4))

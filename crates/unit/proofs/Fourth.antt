@@ -1,13 +1,14 @@
--- Fourth powers of the numbers that the search for q tries: they fit 64 bits, and they cover every mean. Assumes nothing.
+-- Fourth powers of the numbers that are tried for q: they fit 64 bits, and q itself is far below their end. Assumes nothing.
 use mathlib.Core.Path.{_≡_, ap, ap₂, _∙_}
-use Prim.Native.Nat.{ℕ, _*_, _^_, _≤_, _<_, zero-le}
-use native.Mathlib.Nat.{mul-le-mul, mul-le-mul-right, lt-of-le-of-lt, pow-zero, pow-suc, one-mul}
+use Prim.Native.Nat.{ℕ, zero, suc, _*_, _^_, _≤_, _<_, zero-le}
+use native.Mathlib.Nat.{mul-le-mul, mul-le-mul-right, lt-of-le-of-lt, lt-of-lt-of-le, lt-of-not-le, lt-irrefl, le-trans, pow-le-pow-left, pow-zero, pow-suc, one-mul}
 use native.Mathlib.Omega.{arith}
 use lib.Dec.{lit<, lit≤}
 use lib.Pow.{pow-add}
 use mir.Syntax.{w64}
 use mir.Val.{Fits}
 use mir.Facts.{fits-le, fits-lit}
+use Rattle.line.specs.Refused.{MOST}
 use Rattle.unit.specs.Largest.{IsRoot}
 use Rattle.unit.specs.Difference.{rooted, rootOf}
 use Rattle.unit.proofs.Largest.{right, positive}
@@ -18,17 +19,25 @@ square x = pow-suc x 1 ∙ ap (λ (n : ℕ). n * x) (pow-suc x 0 ∙ ap (λ (n :
 pub fourth : (x : ℕ) → x ^ 4 ≡ x * x * (x * x)
 fourth x = pow-add x 2 2 ∙ ap₂ (λ (m n : ℕ). m * n) (square x) (square x)
 
-pub square-fits : (x : ℕ) → x ≤ 31623 → Fits w64 (x * x)
-square-fits x h = fits-le (mul-le-mul h h) (fits-lit tt)
+pub square-fits : (x : ℕ) → x < 65536 → Fits w64 (x * x)
+square-fits x h = fits-le (mul-le-mul {n₂ = 65535} {m₂ = 65535} (omega arith) (omega arith)) (fits-lit tt)
 
-pub fourth-fits : (x : ℕ) → x ≤ 31623 → Fits w64 (x * x * (x * x))
-fourth-fits x h = fits-le (mul-le-mul (mul-le-mul h h) (mul-le-mul h h)) (fits-lit tt)
+pub fourth-fits : (x : ℕ) → x < 65536 → Fits w64 (x * x * (x * x))
+fourth-fits x h =
+    let square : x * x ≤ 65535 * 65535 = mul-le-mul {n₂ = 65535} {m₂ = 65535} (omega arith) (omega arith) in
+    fits-le (mul-le-mul square square) (fits-lit tt)
 
-pub root-small : (m : ℕ) → m ≤ 10000 → rooted m < 31623 ^ 4
-root-small m h = lt-of-le-of-lt (mul-le-mul-right (10 ^ 14) h) (lit< tt)
+pub fourth-positive : (x b : ℕ) → b < x ^ 4 → 1 ≤ x
+fourth-positive zero b h = absurd (omega (arith, fourth 0))
+fourth-positive (suc x) b h = omega arith
 
-pub root-right : (m : ℕ) → m ≤ 10000 → IsRoot 4 (rooted m) (rootOf m)
+-- a number whose fourth power is within a mean's bound
+pub root-small : (m q : ℕ) → m ≤ MOST → q ^ 4 ≤ rooted m → q < 31623
+root-small m q h k =
+    lt-of-not-le (λ (l : 31623 ≤ q). lt-irrefl (rooted m) (lt-of-lt-of-le (lt-of-le-of-lt (mul-le-mul-right (10 ^ 14) h) (lit< tt)) (le-trans (pow-le-pow-left l 4) k)))
+
+pub root-right : (m : ℕ) → m ≤ MOST → IsRoot 4 (rooted m) (rootOf m)
 root-right m h = right 15 4 (rooted m) zero-le (lt-of-le-of-lt (mul-le-mul-right (10 ^ 14) h) (lit< tt))
 
-pub root-positive : (m : ℕ) → 1 ≤ m → m ≤ 10000 → 1 ≤ rootOf m
+pub root-positive : (m : ℕ) → 1 ≤ m → m ≤ MOST → 1 ≤ rootOf m
 root-positive m h l = positive 4 (rooted m) (rootOf m) (lit≤ tt) (omega arith) (root-right m l)

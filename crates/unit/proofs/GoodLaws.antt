@@ -9,35 +9,34 @@ use lib.Dec.{ltb, eqb}
 use Rattle.laws.proofs.Bools.{or-either, or-neither}
 use Rattle.line.specs.Fields.{recordOf}
 use Rattle.line.specs.Read.{readOf}
-use Rattle.line.specs.Refused.{kindRow, dateRow, meanRow, classOf}
+use Rattle.line.specs.Refused.{MAINTENANCE, STUDY, FIRST-YEAR, LAST-YEAR, kindRow, dateRow, meanRow, classOf}
 use Rattle.line.specs.declared.fields.Fields.{Fields}
 use Rattle.line.specs.declared.record.Record.{Record}
 use Rattle.line.specs.declared.record.Means.{Means}
 use Rattle.line.specs.declared.record.Read.the-variants.{Whole}
 use Rattle.line.proofs.RowLaws.{Clean}
 use Rattle.line.proofs.Whole.{whole-clean}
-use Rattle.unit.specs.Difference.{GoodMean}
-use Rattle.unit.specs.Good.{GoodRecord}
+use Rattle.unit.specs.Good.{GoodRecord, GoodMean}
 use Rattle.unit.specs.Standardize.{badMean}
 use Rattle.unit.proofs.MeanLaws.{mean-rows, good-mean}
 
-kinds : (k : ℕ) → kindRow k ≡ false → (k ≡ 1) ⊎ (k ≡ 2)
+kinds : (k : ℕ) → kindRow k ≡ false → (k ≡ MAINTENANCE) ⊎ (k ≡ STUDY)
 unfolding kindRow
-kinds k e = ⊎-elim (λ p. inl (eqb-true k 1 p)) (λ p. inr (eqb-true k 2 p)) (or-either (eqb k 1) (eqb k 2) (not-false _ e))
+kinds k e = ⊎-elim (λ p. inl (eqb-true k MAINTENANCE p)) (λ p. inr (eqb-true k STUDY p)) (or-either (eqb k MAINTENANCE) (eqb k STUDY) (not-false _ e))
 
 record Date (year month : ℕ) : Type 0 where
-  least : 2000 ≤ year
-  most : year ≤ 2099
+  least : FIRST-YEAR ≤ year
+  most : year ≤ LAST-YEAR
   one : 1 ≤ month
   twelve : month ≤ 12
 
 date : (y m : ℕ) → dateRow y m ≡ false → Date y m
 unfolding dateRow
 date y m e =
-    let a = or-neither (ltb y 2000 || ltb 2099 y || ltb m 1) (ltb 12 m) e in
-    let b = or-neither (ltb y 2000 || ltb 2099 y) (ltb m 1) (a .0) in
-    let c = or-neither (ltb y 2000) (ltb 2099 y) (b .0) in
-    record { least = ltb-false y 2000 (c .0); most = ltb-false 2099 y (c .1); one = ltb-false m 1 (b .1); twelve = ltb-false 12 m (a .1) }
+    let a = or-neither (ltb y FIRST-YEAR || ltb LAST-YEAR y || ltb m 1) (ltb 12 m) e in
+    let b = or-neither (ltb y FIRST-YEAR || ltb LAST-YEAR y) (ltb m 1) (a .0) in
+    let c = or-neither (ltb y FIRST-YEAR) (ltb LAST-YEAR y) (b .0) in
+    record { least = ltb-false y FIRST-YEAR (c .0); most = ltb-false LAST-YEAR y (c .1); one = ltb-false m 1 (b .1); twelve = ltb-false 12 m (a .1) }
 
 record GoodMeans (class : ℕ) (m : Means) : Type 0 where
   moisture : GoodMean class 0 (m .moisture)

@@ -7,13 +7,15 @@ use lib.ListN.{length}
 use lib.IntN.{ℤ, natAbs}
 use Rattle.laws.proofs.Word.{abs-plus}
 use Rattle.unit.specs.declared.study.Sums.{Sums}
-use Rattle.unit.specs.Study.{noSums, addedOf, sumsOf, Held}
+use Rattle.unit.specs.Difference.{CAP}
+use Rattle.unit.specs.Study.{noSums, addedOf, sumsOf}
+use Rattle.unit.specs.Bounds.{Held}
 use Rattle.unit.proofs.Bounds.{measure-small}
 
 pub none-held : Held 0 noSums
 none-held = record { s = omega arith; q = omega arith; g = omega arith }
 
-pub more-held : {n : ℕ} (sums : Sums) (d : ℤ) → natAbs d ≤ 999 → Held n sums → Held (suc n) (addedOf sums d)
+pub more-held : {n : ℕ} (sums : Sums) (d : ℤ) → natAbs d ≤ CAP → Held n sums → Held (suc n) (addedOf sums d)
 more-held sums d h k =
     record {
       s = omega (arith, abs-plus (sums .s) d, k .s);
@@ -21,13 +23,10 @@ more-held sums d h k =
       g = omega (arith, measure-small (natAbs d) h, k .g);
     }
 
-pub fewer-held : {m n : ℕ} (sums : Sums) → m ≤ n → Held m sums → Held n sums
-fewer-held sums h k = record { s = omega (arith, k .s); q = omega (arith, k .q); g = omega (arith, k .g) }
-
--- each difference of the list is at most 999 in size
+-- each difference of the list is at most CAP in size
 abbrev pub Small : List ℤ → Type 0
 Small [] = Unit {0}
-Small (d ∷ ds) = (natAbs d ≤ 999) × Small ds
+Small (d ∷ ds) = (natAbs d ≤ CAP) × Small ds
 
 pub list-held : (ds : List ℤ) → Small ds → Held (length ds) (sumsOf ds)
 unfolding sumsOf

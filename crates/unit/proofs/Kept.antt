@@ -2,13 +2,12 @@
 -- where a ground stands. Kept by every line, and started anew by admission. Assumes nothing.
 use Prim.Native.Nat.{ℕ, zero, suc, _+_, _*_, _-_, _≤_, _<_}
 use mathlib.Core.Path.{_≡_, refl, sym, ap, ap₂, _∙_, subst}
-use mathlib.Core.Bool.{Bool, true, false, cond, not, _&&_, _||_, true≢false, or-false, or-true, or-assoc}
-use mathlib.Core.Logic.{_⊎_, inl, inr, ⊎-elim}
+use mathlib.Core.Bool.{Bool, true, false, cond, not, _&&_, _||_, or-false, or-true, or-assoc}
+use mathlib.Core.Logic.{_⊎_, ⊎-elim}
 use mathlib.Core.List.{List, [], _∷_, _++_, append-nil, append-assoc}
 use native.Mathlib.Omega.{arith}
 use borrow.Author.Tests.{ltb-false, eq-eqb, eqb-true, eqb-false, not-false}
-use lib.Dec.{eqb, lit≤, lit<}
-use lib.IntN.{ℤ, pos}
+use lib.Dec.{eqb}
 use Rattle.grounds.specs.Entry.{Entry, misses, missed as aMiss, sample}
 use Rattle.grounds.specs.Miss.{again, window}
 use Rattle.grounds.proofs.Charted as G
@@ -16,20 +15,20 @@ use Rattle.grounds.proofs.Missed.{Missed, missed-none, missed-missed, missed-sa
 use Rattle.laws.proofs.Below.{below}
 use Rattle.laws.proofs.Bools.{or-neither, and-fails}
 use Rattle.line.specs.Read.{readOf}
-use Rattle.line.specs.Refused.{firstRow}
+use Rattle.line.specs.Refused.{firstRow, MAINTENANCE, STUDY}
 use Rattle.line.specs.declared.record.Record.{Record}
 use Rattle.line.specs.declared.record.Read.{Read}
 use Rattle.line.specs.declared.record.Read.the-variants.{Whole, Refused as Unread}
 use Rattle.unit.specs.Claim.{Step, isPassed, isRefused, opens, openedIn, CHARTS, limit, contribution, entryBy, entryOf, entryIn, entriesOf}
 use Rattle.unit.specs.Good.{GoodRecord}
 use Rattle.unit.specs.Sample.{monthOf, missed, differencesOf}
-use Rattle.unit.specs.Set.{SET, enteredOf, passesSet}
+use Rattle.unit.specs.Set.{enteredOf, passesSet}
+use Rattle.unit.specs.Study.{SET}
 use Rattle.unit.specs.Stretch.{noSamples, sampledOf, anyOver}
-use Rattle.unit.specs.Take.{SECOND, ACCREDITED, PROBATION, CLOSED, MAINTENANCE, STUDY, noMisses, failedStage, unitRows, refusedOf, missedBy, sampleBy, judgedBy, studyBy, acceptedBy, recordBy, recordOf, readBy, takenOf}
+use Rattle.unit.specs.Take.{SECOND, ACCREDITED, PROBATION, CLOSED, noMisses, failedStage, unitRows, missedBy, sampleBy, judgedBy, studyBy, acceptedBy, recordBy, recordOf, readBy, takenOf}
 use Rattle.unit.specs.declared.Unit as U
-use Rattle.unit.specs.declared.Taken.{Taken}
 use Rattle.unit.specs.declared.event.Event.{Event}
-use Rattle.unit.specs.declared.event.Event.the-variants.{Refused, Sample, Missed as MissedLine, UnderWay, Passed, Failed, ByCharts, ByMisses}
+use Rattle.unit.specs.declared.event.Event.the-variants.{Refused, Sample, Missed as MissedLine, UnderWay, Failed, ByCharts, ByMisses}
 use Rattle.unit.specs.declared.set.Set.{Set}
 use Rattle.unit.specs.declared.stretch.Stretch.{Stretch}
 use Rattle.unit.proofs.GoodLaws.{good-record}

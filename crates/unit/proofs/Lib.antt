@@ -1,12 +1,14 @@
 -- Laws that the proofs of functions cite.
 pub mod Largest
 pub mod PowerList
+pub mod Distance
 pub mod Fourth
 pub mod Coefficients
 pub mod Value
 pub mod Bounds
 pub mod Steps
 pub mod Held
+pub mod Spread
 pub mod MeanLaws
 pub mod Room
 pub mod Taking

@@ -7,13 +7,13 @@ use native.Mathlib.Omega.{arith}
 use borrow.Author.Tests.{ltb-false, le-ltb, ne-eqb}
 use lib.Dec.{ltb, eqb}
 use Rattle.laws.proofs.Bools.{or-neither}
-use Rattle.line.specs.Refused.{meanRow, MOST, classOf}
+use Rattle.line.specs.Refused.{meanRow, MOST, LEAST-PROTEIN, LEAST-BEEF-FAT, classOf}
 use Rattle.line.specs.declared.record.Means.{Means}
-use Rattle.unit.specs.Difference.{leastMean, GoodMean}
+use Rattle.unit.specs.Good.{leastMean, GoodMean}
 use Rattle.unit.specs.Standardize.{badMean}
 
--- fat: 0, or below 1250 in ground beef
-fat-row : (beef : Bool) (m : ℕ) → ltb m (cond beef 1250 1) ≡ (eqb m 0 || (beef && ltb m 1250))
+-- fat: 0, or below its least in ground beef
+fat-row : (beef : Bool) (m : ℕ) → ltb m (cond beef LEAST-BEEF-FAT 1) ≡ (eqb m 0 || (beef && ltb m LEAST-BEEF-FAT))
 fat-row true zero = refl
 fat-row true (suc m) = rw (ne-eqb (suc m) 0 (λ e. omega arith))
 fat-row false zero = refl
@@ -42,8 +42,8 @@ pub mean-rows : (product : ℕ) (m : Means) → let class = classOf product in
     meanRow product m ≡ (badMean class 0 (m .moisture) || badMean class 1 (m .protein) || badMean class 2 (m .fat) || badMean class 3 (m .salt))
 unfolding meanRow badMean leastMean
 mean-rows product m =
-    by-analyte (ltb MOST (m .moisture)) (ltb MOST (m .protein)) (ltb MOST (m .fat)) (ltb MOST (m .salt)) (ltb (m .protein) 5)
-    (eqb (m .fat) 0) (eqb (classOf product) 1 && ltb (m .fat) 1250)
+    by-analyte (ltb MOST (m .moisture)) (ltb MOST (m .protein)) (ltb MOST (m .fat)) (ltb MOST (m .salt)) (ltb (m .protein) LEAST-PROTEIN)
+    (eqb (m .fat) 0) (eqb (classOf product) 1 && ltb (m .fat) LEAST-BEEF-FAT)
     ∙ rw (fat-row (eqb (classOf product) 1) (m .fat), le-ltb (m .moisture) 0 (omega arith), le-ltb (m .salt) 0 (omega arith))
 
 pub good-mean : (class analyte m : ℕ) → badMean class analyte m ≡ false → GoodMean class analyte m

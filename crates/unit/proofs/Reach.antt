@@ -1,25 +1,26 @@
 -- Every unit that a list of lines leads to keeps to the bounds, and one more line leads to another such unit. Assumes nothing.
 use Prim.Native.Nat.{ℕ, zero, suc, _≤_, _<_}
-use mathlib.Core.Path.{_≡_, refl, sym, ap, _∙_, subst}
+use mathlib.Core.Path.{_≡_, refl, ap, _∙_, subst}
 use mathlib.Core.Bool.{Bool, true, false}
-use mathlib.Core.Logic.{_⊎_, inl, inr, ⊎-elim}
+use mathlib.Core.Logic.{_⊎_, ⊎-elim}
 use mathlib.Core.List.{List, [], _∷_, _++_}
 use native.Mathlib.Omega.{arith}
-use borrow.Author.Tests.{eqb-true, eqb-false}
+use borrow.Author.Tests.{eqb-false}
 use lib.Dec.{eqb, lit≤, lit<}
 use Rattle.grounds.specs.Miss.{again}
 use Rattle.line.specs.Read.{readOf}
-use Rattle.line.specs.Refused.{firstRow}
+use Rattle.line.specs.Refused.{firstRow, STUDY, MAINTENANCE}
 use Rattle.line.specs.declared.record.Record.{Record}
 use Rattle.line.specs.declared.record.Read.{Read}
 use Rattle.line.specs.declared.record.Read.the-variants.{Whole, Refused as Unread}
-use Rattle.unit.specs.Bounds.{Bounded, LAST}
+use Rattle.unit.specs.Bounds.{Bounded, LAST, HeldSums, HeldStretch}
 use Rattle.unit.specs.Good.{GoodRecord}
-use Rattle.unit.specs.Reached.{after, replay, Reached}
+use Rattle.unit.specs.Reached.{after, Reached}
 use Rattle.unit.specs.Sample.{monthOf, missed, differencesOf}
-use Rattle.unit.specs.Set.{SET, emptySet, enteredOf, passesSet, HeldSums}
-use Rattle.unit.specs.Stretch.{anyOver, sampledOf, HeldStretch}
-use Rattle.unit.specs.Take.{newUnit, STUDY, MAINTENANCE, unitRows, missedBy, sampleBy, judgedBy, studyBy, acceptedBy, recordBy, recordOf, readBy, takenOf}
+use Rattle.unit.specs.Set.{emptySet, enteredOf, passesSet}
+use Rattle.unit.specs.Study.{SET}
+use Rattle.unit.specs.Stretch.{anyOver, sampledOf}
+use Rattle.unit.specs.Take.{newUnit, unitRows, missedBy, sampleBy, judgedBy, studyBy, acceptedBy, recordBy, recordOf, readBy, takenOf}
 use Rattle.unit.specs.declared.Unit as U
 use Rattle.unit.specs.declared.set.Set.{Set}
 use Rattle.unit.specs.declared.stretch.Stretch.{Stretch}

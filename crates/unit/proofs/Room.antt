@@ -1,15 +1,15 @@
 -- There is room in a word for what the charts of a stretch can come to, and one more sample keeps to the bounds. Assumes nothing.
-use mathlib.Core.Path.{_≡_, refl}
-use mathlib.Core.Bool.{true, false, cond}
-use Prim.Native.Nat.{ℕ, zero, suc, _+_, _*_, _≤_, _<_}
+use mathlib.Core.Path.{_≡_}
+use Prim.Native.Nat.{ℕ, zero, suc, _+_, _≤_, _<_}
 use native.Mathlib.Numerals.{add-one}
 use native.Mathlib.Omega.{arith}
 use lib.Dec.{eqb, lit≤}
-use lib.IntN.{ℤ, natAbs}
+use lib.IntN.{natAbs}
 use Rattle.laws.proofs.Cond.{cases}
-use Rattle.unit.specs.Charts.{Within}
+use Rattle.unit.specs.Bounds.{Within, HeldStretch, Capped}
 use Rattle.unit.specs.Contribution.{food, contributionsOf}
-use Rattle.unit.specs.Stretch.{FULL, noCharts, noSamples, earlier, movedOf, sampledOf, HeldStretch, Capped}
+use Rattle.unit.specs.Difference.{CAP}
+use Rattle.unit.specs.Stretch.{FULL, noCharts, noSamples, earlier, movedOf, sampledOf}
 use Rattle.unit.specs.declared.chart.Charts.{Charts}
 use Rattle.unit.specs.declared.difference.Difference.{Difference}
 use Rattle.unit.specs.declared.sample.Differences.{Differences}
@@ -18,7 +18,7 @@ use Rattle.unit.proofs.Bounds.{moderate}
 use Rattle.unit.proofs.Steps.{more-within, first-within}
 
 -- a chart moves from a stretch of n samples to one of n + 1. A new stretch starts from nothing, whatever the chart held
-step-held : (n : ℕ) (c : Charts) (d : Difference) → (0 < n → Within n c) → natAbs (d .tenths) ≤ 999 → Within (suc n) (movedOf c n d)
+step-held : (n : ℕ) (c : Charts) (d : Difference) → (0 < n → Within n c) → natAbs (d .tenths) ≤ CAP → Within (suc n) (movedOf c n d)
 step-held zero c d h k = first-within c (contributionsOf food (d .tenths)) (moderate food (d .tenths) (lit≤ tt) k)
 step-held (suc n) c d h k = more-within (suc n) c (contributionsOf food (d .tenths)) (h (omega arith)) (moderate food (d .tenths) (lit≤ tt) k)
 

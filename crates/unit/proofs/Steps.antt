@@ -10,7 +10,9 @@ use Rattle.laws.proofs.Word.{abs-plus}
 use Rattle.grounds.specs.Chart.{raised, nextValue, nextFirst}
 use Rattle.unit.specs.declared.chart.Charts.{Charts}
 use Rattle.unit.specs.declared.contribution.Contributions.{Contributions}
-use Rattle.unit.specs.Charts.{chartsOf, Moderate, AllRoomy, AllModerate, Within}
+use Rattle.unit.specs.Stretch.{FULL}
+use Rattle.unit.specs.Charts.{chartsOf}
+use Rattle.unit.specs.Bounds.{LARGEST, Moderate, AllRoomy, AllModerate, Within}
 
 pub later-value : (before : ℕ) (value x : ℤ) → 1 ≤ before → nextValue before value x ≡ raised (value +ℤ x)
 unfolding nextValue
@@ -30,16 +32,16 @@ later-first (suc zero) value first h = absurd (omega arith)
 later-first (suc (suc before)) value first h = refl
 
 -- after n samples a value is at most n contributions in size
-pub value-within : (n : ℕ) (value x : ℤ) → natAbs value ≤ 10000 * n → Moderate x → natAbs (nextValue n value x) ≤ 10000 * suc n
+pub value-within : (n : ℕ) (value x : ℤ) → natAbs value ≤ LARGEST * n → Moderate x → natAbs (nextValue n value x) ≤ LARGEST * suc n
 unfolding nextValue
 value-within zero value x h l = l
 value-within (suc n) value x h l =
-    cases (λ (z : ℤ). natAbs z ≤ 10000 * suc (suc n)) (ltZ (value +ℤ x) (pos 0)) (pos 0) (value +ℤ x)
+    cases (λ (z : ℤ). natAbs z ≤ LARGEST * suc (suc n)) (ltZ (value +ℤ x) (pos 0)) (pos 0) (value +ℤ x)
     (λ _. omega arith)
     (λ _. omega (arith, abs-plus value x))
 
--- 999 samples leave room
-pub roomy : {n : ℕ} (charts : Charts) → n ≤ 999 → Within n charts → AllRoomy charts
+-- a full stretch leaves room
+pub roomy : {n : ℕ} (charts : Charts) → n ≤ FULL → Within n charts → AllRoomy charts
 roomy charts h w = record { p = omega (arith, w .p); n = omega (arith, w .n); v = omega (arith, w .v); d = omega (arith, w .d) }
 
 -- one sample more; the first of a stretch, whatever the charts held

@@ -1,29 +1,25 @@
 -- What a record does, case by case, and what an accepted one says of the unit. Assumes nothing.
 use Prim.Native.Nat.{ℕ, zero, suc, _≤_, _<_}
-use mathlib.Core.Path.{_≡_, refl, sym, ap, ap₂, _∙_, subst}
-use mathlib.Core.Bool.{Bool, true, false, cond, not, _&&_, _||_}
-use mathlib.Core.Logic.{_⊎_, inl, inr, ⊎-elim}
+use mathlib.Core.Path.{_≡_, refl, sym, ap, ap₂, _∙_}
+use mathlib.Core.Bool.{Bool, true, false, not, _&&_}
 use native.Mathlib.Omega.{arith}
-use borrow.Author.Tests.{eq-eqb, ne-eqb, lt-ltb, leb-false, eqb-true}
+use borrow.Author.Tests.{eq-eqb, ne-eqb, leb-false}
 use lib.Dec.{leb, eqb}
 use lib.IntN.{natAbs}
-use Rattle.grounds.specs.Chart.{before}
-use Rattle.laws.proofs.Bools.{either, and-fails}
+use Rattle.laws.proofs.Bools.{and-fails}
 use Rattle.laws.proofs.Cond.{cases}
-use Rattle.line.specs.Refused.{Row, firstRow}
+use Rattle.line.specs.Refused.{firstRow, STUDY, MAINTENANCE}
 use Rattle.line.specs.declared.record.Record.{Record}
 use Rattle.line.proofs.RowLaws.{passed}
 use Rattle.line.specs.Percent.{amountOf}
 use Rattle.line.specs.declared.record.Reading.{Reading}
-use Rattle.unit.specs.Difference.{distance, valueOf}
-use Rattle.unit.specs.Good.{GoodRecord}
+use Rattle.unit.specs.Difference.{CAP, distance, valueOf}
 use Rattle.unit.specs.Sample.{missed, countOf, differenceFor, differencesOf}
-use Rattle.unit.specs.Set.{SET, enteredOf, HeldSums}
-use Rattle.unit.specs.Stretch.{FULL, earlier, Capped}
-use Rattle.unit.specs.Study.{Held}
-use Rattle.unit.specs.Take.{STUDY, MAINTENANCE, closedRow, stageRow, backdatedRow, gapRow, fullRow, unitRows, refusedOf, missedOf, sampleOf, studyOf, acceptedBy, recordBy, recordOf}
+use Rattle.unit.specs.Set.{enteredOf}
+use Rattle.unit.specs.Bounds.{HeldSums, Capped}
+use Rattle.unit.specs.Stretch.{FULL, earlier}
+use Rattle.unit.specs.Take.{closedRow, stageRow, backdatedRow, gapRow, fullRow, unitRows, refusedOf, missedOf, sampleOf, studyOf, acceptedBy, recordBy, recordOf}
 use Rattle.unit.specs.declared.Unit as U
-use Rattle.unit.specs.declared.Taken.{Taken}
 use Rattle.unit.specs.declared.set.Set.{Set}
 use Rattle.unit.specs.declared.sample.Differences.{Differences}
 use Rattle.unit.proofs.Bounds.{difference-small}
@@ -87,7 +83,7 @@ room u r o k m =
 
 -- ---- differences are capped
 
-capped-for : (product analyte mean : ℕ) (x : Reading) → natAbs (differenceFor product analyte mean x .tenths) ≤ 999
+capped-for : (product analyte mean : ℕ) (x : Reading) → natAbs (differenceFor product analyte mean x .tenths) ≤ CAP
 capped-for product analyte mean x = difference-small (distance (countOf (amountOf x)) mean) (valueOf product analyte mean)
 
 pub capped : (r : Record) → Capped (differencesOf r)

@@ -11,8 +11,9 @@ use Rattle.unit.proofs.PowerList.{power-positive}
 use Rattle.unit.proofs.Fourth.{root-positive}
 use Rattle.unit.specs.declared.coefficient.Power.the-variants.{Constant, P, Q}
 use Rattle.unit.specs.declared.coefficient.Coefficient.{Coefficient}
-use Rattle.line.specs.Refused.{classOf, isDry}
-use Rattle.unit.specs.Difference.{_times_, moisture, protein, fat, salt, coefficientFor, coefficientOf, leastMean, GoodMean, valueBy, valueOf, tenthsOf, powerOf}
+use Rattle.line.specs.Refused.{MOST, LEAST-PROTEIN, LEAST-BEEF-FAT, classOf, isDry}
+use Rattle.unit.specs.Difference.{_times_, moisture, protein, fat, salt, coefficientFor, coefficientOf, valueBy, valueOf, tenthsOf, powerOf}
+use Rattle.unit.specs.Good.{leastMean, GoodMean}
 
 -- ---- what the coefficient of a good mean can be
 
@@ -23,14 +24,14 @@ moisture-small (suc (suc zero)) h = omega arith
 moisture-small (suc (suc (suc zero))) h = omega arith
 moisture-small (suc (suc (suc (suc n)))) h = absurd (omega arith)
 
-protein-mean : (class m : ℕ) → GoodMean class 1 m → 5 ≤ m
+protein-mean : (class m : ℕ) → GoodMean class 1 m → LEAST-PROTEIN ≤ m
 unfolding leastMean
 protein-mean class m g = g .least
 
 fat-mean : (class m : ℕ) → GoodMean class 2 m → 1 ≤ m
 unfolding leastMean
 fat-mean class m g =
-    cases (λ (n : ℕ). n ≤ m → 1 ≤ m) (eqb class 1) 1250 1 (λ _ h. omega arith) (λ _ h. h) (g .least)
+    cases (λ (n : ℕ). n ≤ m → 1 ≤ m) (eqb class 1) LEAST-BEEF-FAT 1 (λ _ h. omega arith) (λ _ h. h) (g .least)
 
 module _ (H : Coefficient → Type 0) (class : ℕ) (dry : Bool) (analyte m : ℕ) (small : class < 4) (good : GoodMean class analyte m)
     (constant : (k : ℕ) → 1 ≤ k → k ≤ 710 → H (k times Constant)) (p : analyte ≡ 1 → H (60 times P))
@@ -66,8 +67,8 @@ module _ (H : Coefficient → Type 0) (class : ℕ) (dry : Bool) (analyte m : �
       (λ e. p (eqb-true analyte 1 e))
       (λ _. cases H (eqb analyte 2) (fat class m) (salt dry m) (λ e. of-fat (eqb-true analyte 2 e)) (λ _. of-salt)))
 
--- a mean of at least 5 hundredths is at least 1 tenth
-tenths-positive : {m : ℕ} → 5 ≤ m → m ≤ 10000 → 1 ≤ powerOf (tenthsOf m)
+-- a mean of at least LEAST-PROTEIN hundredths is at least 1 tenth
+tenths-positive : {m : ℕ} → LEAST-PROTEIN ≤ m → m ≤ MOST → 1 ≤ powerOf (tenthsOf m)
 tenths-positive {m} h l = power-positive (tenthsOf m) (omega arith) (omega arith)
 
 -- ---- so the powers are asked for means that they have, and the value is positive and fits
@@ -82,9 +83,9 @@ module _ (product analyte m : ℕ) (good : GoodMean (classOf product) analyte m)
   pub coefficient-small : coefficientOf product analyte m .thousandths ≤ 710
   coefficient-small = theirs (λ (c : Coefficient). c .thousandths ≤ 710) (λ k _ h. h) (λ _. lit≤ tt) (λ k _ h _. h)
 
-  pub only-protein : coefficientOf product analyte m .power ≡ P → 5 ≤ m
+  pub only-protein : coefficientOf product analyte m .power ≡ P → LEAST-PROTEIN ≤ m
   only-protein =
-      theirs (λ (c : Coefficient). c .power ≡ P → 5 ≤ m)
+      theirs (λ (c : Coefficient). c .power ≡ P → LEAST-PROTEIN ≤ m)
       (λ k _ _ (e : Constant ≡ P). let z : _≡_ {A = ℕ} 0 1 = cc in absurd (omega arith))
       (λ h _. protein-mean (classOf product) m (at-protein h))
       (λ k _ _ _ (e : Q ≡ P). let z : _≡_ {A = ℕ} 0 1 = cc in absurd (omega arith))

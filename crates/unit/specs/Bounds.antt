@@ -1,12 +1,78 @@
--- How far the numbers of a unit can go. Every unit that a list of lines leads to keeps to these bounds.
-use Prim.Native.Nat.{ℕ, _≤_, _<_}
-use Rattle.unit.specs.Set.{SET, HeldSums}
-use Rattle.unit.specs.Stretch.{HeldStretch}
+-- How far the numbers of a unit can go: what the proofs need, and no part of the rules. Every unit that a list of lines leads to keeps to `Bounded`.
+use Prim.Native.Nat.{ℕ, _+_, _*_, _≤_, _<_}
+use lib.IntN.{ℤ, natAbs}
+use Rattle.line.specs.Refused.{LAST-YEAR}
+use Rattle.unit.specs.Difference.{CAP}
+use Rattle.unit.specs.Stretch.{FULL}
+use Rattle.unit.specs.Study.{SET}
 use Rattle.unit.specs.declared.Unit as U
+use Rattle.unit.specs.declared.chart.Charts.{Charts}
+use Rattle.unit.specs.declared.contribution.Contributions.{Contributions}
+use Rattle.unit.specs.declared.sample.Differences.{Differences}
+use Rattle.unit.specs.declared.set.Set.{Set}
+use Rattle.unit.specs.declared.stretch.Stretch.{Stretch}
+use Rattle.unit.specs.declared.study.Sums.{Sums}
 
--- December 2099
+-- differences are capped
+pub record Capped (d : Differences) : Type 0 where
+  pub moisture : natAbs (d .moisture .tenths) ≤ CAP
+  pub protein : natAbs (d .protein .tenths) ≤ CAP
+  pub fat : natAbs (d .fat .tenths) ≤ CAP
+  pub salt : natAbs (d .salt .tenths) ≤ CAP
+
+-- the largest size of a contribution, and the largest measure
+abbrev pub LARGEST : ℕ
+LARGEST = 10000
+
+abbrev pub Moderate : ℤ → Type 0
+Moderate x = natAbs x ≤ LARGEST
+
+pub record AllModerate (x : Contributions) : Type 0 where
+  pub p : Moderate (x .p)
+  pub n : Moderate (x .n)
+  pub v : Moderate (x .v)
+  pub d : Moderate (x .d)
+
+-- the charts of an analyte after so many samples of a stretch
+pub record Within (samples : ℕ) (charts : Charts) : Type 0 where
+  pub p : natAbs (charts .p .value) ≤ LARGEST * samples
+  pub n : natAbs (charts .n .value) ≤ LARGEST * samples
+  pub v : natAbs (charts .v .value) ≤ LARGEST * samples
+  pub d : natAbs (charts .d .value) ≤ LARGEST * samples
+
+pub record HeldStretch (s : Stretch) : Type 0 where
+  pub samples : s .samples ≤ FULL
+  pub moisture : Within (s .samples) (s .moisture)
+  pub protein : Within (s .samples) (s .protein)
+  pub fat : Within (s .samples) (s .fat)
+  pub salt : Within (s .samples) (s .salt)
+
+-- the charts of an analyte at any time
+abbrev pub Roomy : ℤ → Type 0
+Roomy value = natAbs value ≤ LARGEST * FULL
+
+pub record AllRoomy (c : Charts) : Type 0 where
+  pub p : Roomy (c .p .value)
+  pub n : Roomy (c .n .value)
+  pub v : Roomy (c .v .value)
+  pub d : Roomy (c .d .value)
+
+-- the sums of n differences, each capped
+pub record Held (n : ℕ) (sums : Sums) : Type 0 where
+  pub s : natAbs (sums .s) ≤ CAP * n
+  pub q : sums .q ≤ CAP * CAP * n
+  pub g : sums .g ≤ LARGEST * n
+
+-- those of a set are of its lines so far
+pub record HeldSums (s : Set) : Type 0 where
+  pub moisture : Held (s .lines) (s .moisture)
+  pub protein : Held (s .lines) (s .protein)
+  pub fat : Held (s .lines) (s .fat)
+  pub salt : Held (s .lines) (s .salt)
+
+-- December of the last year
 abbrev pub LAST : ℕ
-LAST = 25200
+LAST = 12 * LAST-YEAR + 12
 
 pub record Bounded (u : U.Unit) : Type 0 where
   pub lines : u .set .lines < SET

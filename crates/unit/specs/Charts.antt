@@ -1,6 +1,6 @@
 -- The four charts of one analyte, moved by the law of the crate `grounds`. Document 01, "Stretch and run".
-use Prim.Native.Nat.{ℕ, _*_, _≤_}
-use lib.IntN.{ℤ, natAbs}
+use Prim.Native.Nat.{ℕ}
+use lib.IntN.{ℤ}
 use Rattle.grounds.specs.Chart.{nextValue, nextFirst, over}
 use Rattle.unit.specs.Contribution.{limitOf}
 use Rattle.unit.specs.declared.chart.Chart.{Chart}
@@ -31,28 +31,3 @@ overOf charts c =
       v = over (limitOf c 2) (charts .v .value);
       d = over (limitOf c 3) (charts .d .value);
     }
-
--- a contribution is at most 10,000 in size, and a chart holds at most 999 of them
-abbrev pub Moderate : ℤ → Type 0
-Moderate x = natAbs x ≤ 10000
-
-abbrev pub Roomy : ℤ → Type 0
-Roomy value = natAbs value ≤ 9990000
-
-pub record AllRoomy (c : Charts) : Type 0 where
-  pub p : Roomy (c .p .value)
-  pub n : Roomy (c .n .value)
-  pub v : Roomy (c .v .value)
-  pub d : Roomy (c .d .value)
-
-pub record AllModerate (x : Contributions) : Type 0 where
-  pub p : Moderate (x .p)
-  pub n : Moderate (x .n)
-  pub v : Moderate (x .v)
-  pub d : Moderate (x .d)
-
-pub record Within (samples : ℕ) (charts : Charts) : Type 0 where
-  pub p : natAbs (charts .p .value) ≤ 10000 * samples
-  pub n : natAbs (charts .n .value) ≤ 10000 * samples
-  pub v : natAbs (charts .v .value) ≤ 10000 * samples
-  pub d : natAbs (charts .d .value) ≤ 10000 * samples

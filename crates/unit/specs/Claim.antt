@@ -9,12 +9,13 @@ use lib.IntN.{ℤ, pos}
 use Rattle.grounds.specs.Claim.{Grounds, Claim}
 use Rattle.grounds.specs.Entry.{Entry, missed as aMiss, sample}
 use Rattle.line.specs.Read.{readOf}
+use Rattle.line.specs.Refused.{MAINTENANCE}
 use Rattle.line.specs.declared.record.Record.{Record}
 use Rattle.line.specs.declared.record.Read.{Read}
 use Rattle.line.specs.declared.record.Read.the-variants.{Whole, Refused as Unread}
 use Rattle.unit.specs.Contribution.{food, contributionsOf, limitOf}
 use Rattle.unit.specs.Sample.{monthOf, missed, differencesOf}
-use Rattle.unit.specs.Take.{newUnit, takenOf, MAINTENANCE}
+use Rattle.unit.specs.Take.{newUnit, takenOf}
 use Rattle.unit.specs.declared.Unit as U
 use Rattle.unit.specs.declared.contribution.Contributions.{Contributions}
 use Rattle.unit.specs.declared.event.Event.{Event}

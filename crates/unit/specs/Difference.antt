@@ -1,11 +1,11 @@
 -- Document 01, "Standardizing value and difference", from the mean to the standardizing value and the difference.
-use Prim.Native.Nat.{ℕ, suc, _+_, _*_, _/_, _%_, _^_, _≤_, min}
+use Prim.Native.Nat.{ℕ, suc, _+_, _*_, _/_, _^_, min}
 use mathlib.Core.Bool.{Bool, cond, _&&_}
 use mathlib.Core.List.{[], _∷_}
 use lib.IntN.{ℤ, pos, negsuc, negℤ, _-ℤ_}
 use lib.Dec.{eqb, leb, ltb}
 use lib.ListN.{getD}
-use Rattle.line.specs.Refused.{MOST, classOf, isDry}
+use Rattle.line.specs.Refused.{classOf, isDry}
 use Rattle.unit.specs.declared.coefficient.Power.{Power}
 use Rattle.unit.specs.declared.coefficient.Power.the-variants.{Constant, P, Q}
 use Rattle.unit.specs.declared.coefficient.Coefficient.{Coefficient}
@@ -74,21 +74,17 @@ valueBy c m = c .thousandths * powerFor (c .power) m
 abbrev pub valueOf : ℕ → ℕ → ℕ → ℕ
 valueOf product analyte m = valueBy (coefficientOf product analyte m) m
 
--- "Refused", row 6, the means of valid lines: at most a hundred percent; protein from 5, fat from 1, ground beef's fat from 1250
-unfoldable pub leastMean : ℕ → ℕ → ℕ
-leastMean class analyte = cond (eqb analyte 1) 5 (cond (eqb analyte 2) (cond (eqb class 1) 1250 1) 0)
-
-pub record GoodMean (class analyte m : ℕ) : Type 0 where
-  pub least : leastMean class analyte ≤ m
-  pub most : m ≤ MOST
-
 -- h is the reading minus the mean, in hundredths
 abbrev pub distance : ℕ → ℕ → ℤ
 distance reading mean = pos reading -ℤ pos mean
 
+-- the largest size of a standardized difference, in tenths
+abbrev pub CAP : ℕ
+CAP = 999
+
 -- the size of the standardized difference, in tenths: |h| × 1,000,000 / s, capped at 999
 abbrev pub sizeOf : ℕ → ℕ → ℕ
-sizeOf size s = min 999 (nearest (size * 1000000) s)
+sizeOf size s = min CAP (nearest (size * 1000000) s)
 
 -- The standardized difference d, which document 01 coins: that size with the sign of h. Halves of the size go up, so those of d go away from 0.
 abbrev pub differenceOf : ℤ → ℕ → Difference

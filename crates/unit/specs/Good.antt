@@ -1,16 +1,25 @@
 -- What the code needs of a record, and every record that was read has: its date is in range, its kind is one of the two, and its means are those of
 -- valid lines.
-use Prim.Native.Nat.{_≤_}
+use Prim.Native.Nat.{ℕ, _≤_}
 use mathlib.Core.Path.{_≡_}
+use mathlib.Core.Bool.{cond}
 use mathlib.Core.Logic.{_⊎_}
+use lib.Dec.{eqb}
+use Rattle.line.specs.Refused.{MAINTENANCE, STUDY, FIRST-YEAR, LAST-YEAR, MOST, LEAST-PROTEIN, LEAST-BEEF-FAT, classOf}
 use Rattle.line.specs.declared.record.Record.{Record}
-use Rattle.line.specs.Refused.{classOf}
-use Rattle.unit.specs.Difference.{GoodMean}
+
+-- "Refused", row 6, the means of valid lines: at most a hundred percent; protein from 5, fat from 1, ground beef's fat from 1250
+unfoldable pub leastMean : ℕ → ℕ → ℕ
+leastMean class analyte = cond (eqb analyte 1) LEAST-PROTEIN (cond (eqb analyte 2) (cond (eqb class 1) LEAST-BEEF-FAT 1) 0)
+
+pub record GoodMean (class analyte m : ℕ) : Type 0 where
+  pub least : leastMean class analyte ≤ m
+  pub most : m ≤ MOST
 
 pub record GoodRecord (r : Record) : Type 0 where
-  pub kind : (r .kind ≡ 1) ⊎ (r .kind ≡ 2)
-  pub year : 2000 ≤ r .year
-  pub late : r .year ≤ 2099
+  pub kind : (r .kind ≡ MAINTENANCE) ⊎ (r .kind ≡ STUDY)
+  pub year : FIRST-YEAR ≤ r .year
+  pub late : r .year ≤ LAST-YEAR
   pub month : 1 ≤ r .month
   pub december : r .month ≤ 12
   pub moisture : GoodMean (classOf (r .product)) 0 (r .means .moisture)

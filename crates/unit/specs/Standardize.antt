@@ -8,7 +8,8 @@ use Rattle.unit.specs.declared.contribution.Contributions.{Contributions
 use Rattle.unit.specs.declared.standardize.Row.{Row}
 use Rattle.unit.specs.declared.standardize.Standardized.{Standardized}
 use Rattle.unit.specs.declared.standardize.Standardized.the-variants.{Refused, Given}
-use Rattle.unit.specs.Difference.{leastMean, valueOf, distance, differenceOf}
+use Rattle.unit.specs.Difference.{valueOf, distance, differenceOf}
+use Rattle.unit.specs.Good.{leastMean}
 use Rattle.unit.specs.Contribution.{food, contributionsOf}
 
 -- row 6: a mean that no valid line has

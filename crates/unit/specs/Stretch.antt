@@ -1,9 +1,9 @@
 -- Document 01, "Stretch and run": the sixteen charts of the stretch under way, with its year and its number of samples.
-use Prim.Native.Nat.{ℕ, suc, _≤_}
+use Prim.Native.Nat.{ℕ, suc}
 use mathlib.Core.Bool.{Bool, _||_}
-use lib.IntN.{ℤ, pos, natAbs}
+use lib.IntN.{pos}
 use Rattle.grounds.specs.Chart.{before}
-use Rattle.unit.specs.Charts.{chartsOf, overOf, Within}
+use Rattle.unit.specs.Charts.{chartsOf, overOf}
 use Rattle.unit.specs.Contribution.{food, contributionsOf}
 use Rattle.unit.specs.declared.chart.Chart.{Chart}
 use Rattle.unit.specs.declared.chart.Charts.{Charts}
@@ -50,17 +50,3 @@ anyOver s = overIn (s .moisture) || overIn (s .protein) || overIn (s .fat) || ov
 -- a stretch holds at most 999 samples
 abbrev pub FULL : ℕ
 FULL = 999
-
-pub record HeldStretch (s : Stretch) : Type 0 where
-  pub samples : s .samples ≤ FULL
-  pub moisture : Within (s .samples) (s .moisture)
-  pub protein : Within (s .samples) (s .protein)
-  pub fat : Within (s .samples) (s .fat)
-  pub salt : Within (s .samples) (s .salt)
-
--- differences are capped
-pub record Capped (d : Differences) : Type 0 where
-  pub moisture : natAbs (d .moisture .tenths) ≤ 999
-  pub protein : natAbs (d .protein .tenths) ≤ 999
-  pub fat : natAbs (d .fat .tenths) ≤ 999
-  pub salt : natAbs (d .salt .tenths) ≤ 999

@@ -5,12 +5,13 @@ use mathlib.Core.List.{List, [], _∷_}
 use lib.Dec.{leb, ltb, eqb}
 use Rattle.grounds.specs.Miss.{again}
 use Rattle.line.specs.Read.{readOf}
-use Rattle.line.specs.Refused.{Row, firstRow}
+use Rattle.line.specs.Refused.{Row, firstRow, MAINTENANCE, STUDY}
 use Rattle.line.specs.declared.record.Record.{Record}
 use Rattle.line.specs.declared.record.Read.{Read}
 use Rattle.line.specs.declared.record.Read.the-variants.{Whole, Refused as Unread}
 use Rattle.unit.specs.Sample.{monthOf, missed, differencesOf}
-use Rattle.unit.specs.Set.{SET, emptySet, enteredOf, passesSet}
+use Rattle.unit.specs.Set.{emptySet, enteredOf, passesSet}
+use Rattle.unit.specs.Study.{SET}
 use Rattle.unit.specs.Stretch.{FULL, noSamples, sampledOf, anyOver}
 use Rattle.unit.specs.declared.Unit as U
 use Rattle.unit.specs.declared.Taken.{Taken}
@@ -34,13 +35,6 @@ PROBATION = 3
 
 abbrev pub CLOSED : ℕ
 CLOSED = 4
-
--- the kinds of a line
-abbrev pub MAINTENANCE : ℕ
-MAINTENANCE = 1
-
-abbrev pub STUDY : ℕ
-STUDY = 2
 
 -- no miss since admission; a month number is never 0
 abbrev pub noMisses : Misses

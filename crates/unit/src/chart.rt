@@ -4,10 +4,11 @@ use crate::contribution::LIMIT_D;
 use crate::contribution::LIMIT_V;
 use crate::contribution::Systematic;
 ghost use mathlib.Core.Path.{_≡_};
-ghost use Prim.Native.Nat.{_≤_};
-ghost use lib.IntN.{natAbs};
+ghost use Prim.Native.Nat.{_<_};
 ghost use Rattle.grounds.specs.Chart.{nextValue, nextFirst};
-ghost use Rattle.unit.specs.Charts.{chartOf, chartsOf, overOf, Roomy, Moderate, AllRoomy, AllModerate};
+ghost use Rattle.unit.specs.Charts.{chartOf, chartsOf, overOf};
+ghost use Rattle.unit.specs.Stretch.{FULL};
+ghost use Rattle.unit.specs.Bounds.{Roomy, Moderate, AllRoomy, AllModerate};
 
 // A chart's value and the first sample of the run shown.
 pub struct Chart {
@@ -39,7 +40,7 @@ pub fn next_value(before: u16, value: i32, x: i32) -> i32
 
 // The first sample of the run shown after this sample.
 pub fn next_first(before: u16, value: i32, first: u16) -> u16
-    requires { ⌜ before ≤ 998 ⌝ }
+    requires { ⌜ before < FULL ⌝ }
     ensures { λ r. ⌜ r ≡ nextFirst before value first ⌝ }
 {
     if before < 2 {
@@ -52,7 +53,7 @@ pub fn next_first(before: u16, value: i32, first: u16) -> u16
 }
 
 pub fn step(chart: Chart, before: u16, x: i32) -> Chart
-    requires { ⌜ (before ≤ 998) × Roomy (chart .value) × Moderate x ⌝ }
+    requires { ⌜ (before < FULL) × Roomy (chart .value) × Moderate x ⌝ }
     ensures { λ r. ⌜ r ≡ chartOf chart before x ⌝ }
 {
     Chart {
@@ -63,7 +64,7 @@ pub fn step(chart: Chart, before: u16, x: i32) -> Chart
 
 // The four charts of an analyte move together.
 pub fn step_all(charts: Charts, before: u16, x: Contributions) -> Charts
-    requires { ⌜ (before ≤ 998) × AllRoomy charts × AllModerate x ⌝ }
+    requires { ⌜ (before < FULL) × AllRoomy charts × AllModerate x ⌝ }
     ensures { λ r. ⌜ r ≡ chartsOf charts before x ⌝ }
 {
     let p = charts.p;

@@ -4,6 +4,7 @@ use crate::size::size;
 ghost use mathlib.Core.Path.{_≡_};
 ghost use Prim.Native.Nat.{_≤_};
 ghost use lib.IntN.{natAbs};
+ghost use Rattle.unit.specs.Difference.{CAP};
 ghost use Rattle.unit.specs.Contribution.{incrementOf, positiveOf, negativeOf, variableOf, measureOf, deviantOf, contributionsOf};
 
 // What the charts P and N of systematic difference go by: their turning points, their shift and their limit, in tenths.
@@ -41,7 +42,7 @@ pub struct Contributions {
 
 // The large deviation measure of a size, in ten-thousandths.
 pub fn measure(size: u32) -> u32
-    requires { ⌜ size ≤ 999 ⌝ }
+    requires { ⌜ size ≤ CAP ⌝ }
     ensures { λ r. ⌜ r ≡ measureOf size ⌝ }
 {
     if size < LARGE {
@@ -56,7 +57,7 @@ const STEP: i32 = 20;
 
 // The increment of P and N for a difference `d`, by the turning points above and below 0.
 pub fn increment(d: i32, high: u8, low: u8, shift: i32) -> i32
-    requires { ⌜ (natAbs d ≤ 999) × (natAbs shift ≤ 255) ⌝ }
+    requires { ⌜ (natAbs d ≤ CAP) × (natAbs shift ≤ 255) ⌝ }
     ensures { λ r. ⌜ r ≡ incrementOf high low shift d ⌝ }
 {
     if d > high as i32 {
@@ -70,7 +71,7 @@ pub fn increment(d: i32, high: u8, low: u8, shift: i32) -> i32
 
 // To P, positive systematic difference.
 pub fn positive(c: Systematic, d: i32) -> i32
-    requires { ⌜ natAbs d ≤ 999 ⌝ }
+    requires { ⌜ natAbs d ≤ CAP ⌝ }
     ensures { λ r. ⌜ r ≡ positiveOf c d ⌝ }
 {
     increment(d, c.high, c.low, c.shift as i32)
@@ -78,7 +79,7 @@ pub fn positive(c: Systematic, d: i32) -> i32
 
 // To N, negative systematic difference: the turning points change places, and the increment is subtracted from the chart.
 pub fn negative(c: Systematic, d: i32) -> i32
-    requires { ⌜ natAbs d ≤ 999 ⌝ }
+    requires { ⌜ natAbs d ≤ CAP ⌝ }
     ensures { λ r. ⌜ r ≡ negativeOf c d ⌝ }
 {
     -increment(d, c.low, c.high, -(c.shift as i32))
@@ -93,7 +94,7 @@ const MOST: i32 = 16;
 
 // To V, variability, by the difference's size.
 pub fn variable(size: u32) -> i32
-    requires { ⌜ size ≤ 999 ⌝ }
+    requires { ⌜ size ≤ CAP ⌝ }
     ensures { λ r. ⌜ r ≡ variableOf size ⌝ }
 {
     let x = size as i32 - USUAL;
@@ -109,7 +110,7 @@ const ALLOWANCE: i32 = 250;
 
 // To D, large deviations, by the difference's size.
 pub fn deviant(size: u32) -> i32
-    requires { ⌜ size ≤ 999 ⌝ }
+    requires { ⌜ size ≤ CAP ⌝ }
     ensures { λ r. ⌜ r ≡ deviantOf size ⌝ }
 {
     measure(size) as i32 - ALLOWANCE
@@ -117,7 +118,7 @@ pub fn deviant(size: u32) -> i32
 
 // A difference's contributions to its analyte's four charts.
 pub fn contribute(c: Systematic, d: Difference) -> Contributions
-    requires { ⌜ natAbs (d .tenths) ≤ 999 ⌝ }
+    requires { ⌜ natAbs (d .tenths) ≤ CAP ⌝ }
     ensures { λ r. ⌜ r ≡ contributionsOf c (d .tenths) ⌝ }
 {
     let size = size(d.tenths);

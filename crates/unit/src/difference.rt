@@ -4,9 +4,12 @@ use crate::coefficient::choose;
 use crate::powers::power;
 use crate::root::root;
 ghost use mathlib.Core.Path.{_≡_};
-ghost use Prim.Native.Nat.{_<_};
+ghost use mathlib.Core.Bool.{cond};
+ghost use Prim.Native.Nat.{_<_, _≤_};
+ghost use lib.IntN.{pos, negℤ, natAbs};
 ghost use Rattle.line.specs.Refused.{classOf};
-ghost use Rattle.unit.specs.Difference.{GoodMean, valueOf, distance, sizeOf, differenceOf};
+ghost use Rattle.unit.specs.Difference.{CAP, valueOf, distance, sizeOf, differenceOf};
+ghost use Rattle.unit.specs.Good.{GoodMean};
 
 // What a constant in the table of standardizing values is multiplied by, in ten-thousandths.
 const CONSTANT: u32 = 10_000;
@@ -47,17 +50,27 @@ pub struct Difference {
     pub tenths: i32,
 }
 
+// How far two numbers are apart.
+fn apart(a: u32, b: u32) -> u32
+    ensures { λ r. ⌜ r ≡ natAbs (distance a b) ⌝ }
+{
+    if a < b { b - a } else { a - b }
+}
+
+// A size with its sign.
+fn signed(size: u32, negative: bool) -> i32
+    requires { ⌜ size ≤ CAP ⌝ }
+    ensures { λ r. ⌜ r ≡ cond negative (negℤ (pos size)) (pos size) ⌝ }
+{
+    let z = size as i32;
+    if negative { -z } else { z }
+}
+
 pub fn standardized(reading: u32, mean: u32, s: u32) -> Difference
     requires { ⌜ 0 < s ⌝ }
     ensures { λ r. ⌜ r ≡ differenceOf (distance reading mean) s ⌝ }
 {
-    if reading < mean {
-        Difference {
-            tenths: -(scaled(mean - reading, s) as i32),
-        }
-    } else {
-        Difference {
-            tenths: scaled(reading - mean, s) as i32,
-        }
+    Difference {
+        tenths: signed(scaled(apart(reading, mean), s), reading < mean),
     }
 }

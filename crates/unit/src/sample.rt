@@ -6,12 +6,11 @@ use line::record::Amount;
 use line::record::Reading;
 use line::record::Record;
 ghost use mathlib.Core.Path.{_≡_};
-ghost use Prim.Native.Nat.{_<_, _≤_};
+ghost use Prim.Native.Nat.{_<_};
 ghost use Rattle.line.specs.Percent.{amountOf};
 ghost use Rattle.line.specs.Refused.{classOf};
-ghost use Rattle.unit.specs.Difference.{GoodMean};
 ghost use Rattle.unit.specs.Sample.{monthOf, isLost, missed, countOf, differenceFor, differencesOf};
-ghost use Rattle.unit.specs.Good.{GoodRecord};
+ghost use Rattle.unit.specs.Good.{GoodRecord, GoodMean};
 
 // The standardized differences of the four analytes.
 pub struct Differences {

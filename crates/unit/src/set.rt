@@ -6,8 +6,9 @@ use crate::study::empty;
 use crate::study::set_passes;
 ghost use mathlib.Core.Path.{_≡_};
 ghost use Prim.Native.Nat.{_<_};
-ghost use Rattle.unit.specs.Set.{SET, emptySet, enteredOf, passesSet, HeldSums};
-ghost use Rattle.unit.specs.Stretch.{Capped};
+ghost use Rattle.unit.specs.Set.{emptySet, enteredOf, passesSet};
+ghost use Rattle.unit.specs.Bounds.{HeldSums, Capped};
+ghost use Rattle.unit.specs.Study.{SET};
 
 // The sums of the four analytes over the set's lines so far.
 pub struct Set {

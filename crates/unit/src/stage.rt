@@ -14,7 +14,10 @@ use crate::stretch::Stretch;
 use crate::stretch::any_over;
 use crate::stretch::no_samples;
 use crate::stretch::sampled;
+use crate::study::LINES;
+use line::record::MAINTENANCE;
 use line::record::Record;
+use line::record::STUDY;
 ghost use mathlib.Core.Path.{_≡_};
 ghost use mathlib.Core.Bool.{true};
 ghost use Prim.Native.Nat.{_≤_};
@@ -22,10 +25,10 @@ ghost use lib.Dec.{eqb};
 ghost use Rattle.grounds.specs.Miss.{again};
 ghost use Rattle.line.specs.Refused.{firstRow};
 ghost use Rattle.unit.specs.Good.{GoodRecord};
-ghost use Rattle.unit.specs.Set.{SET, passesSet, HeldSums};
+ghost use Rattle.unit.specs.Study.{SET};
 ghost use Rattle.unit.specs.Stretch.{anyOver};
 ghost use Rattle.unit.specs.Take.{unitRowsOf, unitRows, refusedOf, missedBy, sampleBy, failedStage, judgedBy, studyBy, recordOf};
-ghost use Rattle.unit.specs.Bounds.{Bounded, LAST};
+ghost use Rattle.unit.specs.Bounds.{Bounded, LAST, HeldSums};
 
 // The stages.
 pub const APPLICANT: u8 = 0;
@@ -38,15 +41,8 @@ pub const PROBATION: u8 = 3;
 
 pub const CLOSED: u8 = 4;
 
-// The kinds of a line.
-const MAINTENANCE: u8 = 1;
-
-const STUDY: u8 = 2;
-
 // How many samples a stretch holds.
 const FULL: u16 = 999;
-// How many lines a study set has.
-const LINES: u8 = 36;
 // Two misses at most so many months apart open probation.
 const WINDOW: u16 = 11;
 

@@ -3,6 +3,9 @@ use crate::contribution::FOOD;
 use crate::contribution::contribute;
 use crate::difference::standardized;
 use crate::difference::value;
+use line::LEAST_BEEF_FAT;
+use line::LEAST_PROTEIN;
+use line::MOST;
 use line::product_row;
 use line::refusal::MEAN;
 use line::refusal::PRODUCT;
@@ -10,7 +13,7 @@ use line::refusal::READING;
 ghost use mathlib.Core.Path.{_≡_};
 ghost use Prim.Native.Nat.{_<_};
 ghost use Rattle.line.specs.Refused.{classOf};
-ghost use Rattle.unit.specs.Difference.{leastMean, GoodMean};
+ghost use Rattle.unit.specs.Good.{leastMean, GoodMean};
 ghost use Rattle.unit.specs.Standardize.{rowOf, standardizedOf};
 
 // In ten-millionths of a percent; in tenths; in tenths, and for `d` in ten-thousandths.
@@ -28,16 +31,13 @@ pub enum Standardized {
     Given(Row),
 }
 
-// The highest mean and the highest reading, in hundredths of a percent.
-const HIGHEST: u16 = 10_000;
-
 // The least mean of an analyte that a valid line of the class has.
 fn least_mean(class: u8, analyte: u8) -> u16
     ensures { λ r. ⌜ r ≡ leastMean class analyte ⌝ }
 {
     match analyte {
-        1 => 5,
-        2 => { if class == 1 { 1250 } else { 1 } }
+        1 => LEAST_PROTEIN,
+        2 => { if class == 1 { LEAST_BEEF_FAT } else { 1 } }
         _ => 0,
     }
 }
@@ -72,10 +72,10 @@ pub fn standardize(product: u8, analyte: u8, mean: u16, reading: u16) -> Standar
     if mean < least_mean(product & 3, analyte) {
         return Standardized::Refused(MEAN);
     }
-    if mean > HIGHEST {
+    if mean > MOST {
         return Standardized::Refused(MEAN);
     }
-    if reading > HIGHEST {
+    if reading > MOST {
         return Standardized::Refused(READING);
     }
     Standardized::Given(fill(product, analyte, mean, reading))

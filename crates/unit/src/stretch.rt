@@ -5,13 +5,11 @@ use crate::chart::find_over;
 use crate::chart::step_all;
 use crate::contribution::FOOD;
 use crate::contribution::contribute;
-use crate::difference::Difference;
 use crate::sample::Differences;
 ghost use mathlib.Core.Path.{_≡_};
-ghost use Prim.Native.Nat.{_<_, _≤_};
-ghost use lib.IntN.{natAbs};
-ghost use Rattle.unit.specs.Charts.{AllRoomy};
-ghost use Rattle.unit.specs.Stretch.{noCharts, noSamples, earlier, movedOf, sampledOf, overIn, anyOver, FULL, HeldStretch, Capped};
+ghost use Prim.Native.Nat.{_<_};
+ghost use Rattle.unit.specs.Bounds.{HeldStretch, Capped};
+ghost use Rattle.unit.specs.Stretch.{noCharts, noSamples, earlier, sampledOf, overIn, anyOver, FULL};
 
 // The charts of moisture, protein, fat and salt.
 pub struct Stretch {
@@ -57,14 +55,6 @@ pub fn samples_before(s: Stretch, year: u16) -> u16
     if year == s.year { s.samples } else { 0 }
 }
 
-// An analyte's charts after a sample with n before it.
-fn moved(charts: Charts, n: u16, d: Difference) -> Charts
-    requires { ⌜ (n < FULL) × AllRoomy charts × (natAbs (d .tenths) ≤ 999) ⌝ }
-    ensures { λ r. ⌜ r ≡ movedOf charts n d ⌝ }
-{
-    step_all(charts, n, contribute(FOOD, d))
-}
-
 // The stretch after a sample, which opens a new one where the year is another.
 pub fn sampled(s: Stretch, year: u16, d: Differences) -> Stretch
     requires { ⌜ (earlier s year < FULL) × HeldStretch s × Capped d ⌝ }
@@ -82,10 +72,10 @@ pub fn sampled(s: Stretch, year: u16, d: Differences) -> Stretch
     Stretch {
         year,
         samples: n + 1,
-        moisture: moved(moisture, n, dm),
-        protein: moved(protein, n, dp),
-        fat: moved(fat, n, df),
-        salt: moved(salt, n, ds),
+        moisture: step_all(moisture, n, contribute(FOOD, dm)),
+        protein: step_all(protein, n, contribute(FOOD, dp)),
+        fat: step_all(fat, n, contribute(FOOD, df)),
+        salt: step_all(salt, n, contribute(FOOD, ds)),
     }
 }
 

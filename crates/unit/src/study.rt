@@ -3,9 +3,11 @@ use crate::contribution::measure;
 use crate::difference::Difference;
 use crate::size::size;
 ghost use mathlib.Core.Path.{_≡_};
-ghost use Prim.Native.Nat.{_≤_};
+ghost use Prim.Native.Nat.{_-_, _≤_};
 ghost use lib.IntN.{natAbs};
-ghost use Rattle.unit.specs.Study.{noSums, addedOf, passesOf, setPasses, Held};
+ghost use Rattle.unit.specs.Difference.{CAP};
+ghost use Rattle.unit.specs.Study.{noSums, addedOf, passesOf, setPasses, SET};
+ghost use Rattle.unit.specs.Bounds.{Held};
 
 // Of the differences d: the sum, the sum of the squares, and the sum of the measures.
 pub struct Sums {
@@ -22,7 +24,7 @@ pub fn empty() -> Sums
 
 // One more line of a set that is not full.
 pub fn add(sums: Sums, d: Difference) -> Sums
-    requires { ⌜ Held 35 sums × (natAbs (d .tenths) ≤ 999) ⌝ }
+    requires { ⌜ Held (SET - 1) sums × (natAbs (d .tenths) ≤ CAP) ⌝ }
     ensures { λ r. ⌜ r ≡ addedOf sums (d .tenths) ⌝ }
 {
     let size = size(d.tenths);
@@ -34,7 +36,7 @@ pub fn add(sums: Sums, d: Difference) -> Sums
 }
 
 // The lines of a set.
-const LINES: u64 = 36;
+pub const LINES: u8 = 36;
 
 // The spread weighs so much against the square of what the sum leaves.
 const SPREAD_WEIGHT: u64 = 2601;
@@ -50,7 +52,7 @@ const DEVIATION: u32 = 18_000;
 
 // Whether an analyte passes a full set. The square of the sum, which the spread subtracts, is added on the other side.
 pub fn passes(sums: Sums) -> bool
-    requires { ⌜ Held 36 sums ⌝ }
+    requires { ⌜ Held SET sums ⌝ }
     ensures { λ r. ⌜ r ≡ passesOf sums ⌝ }
 {
     let size = size(sums.s) as u64;
@@ -58,7 +60,7 @@ pub fn passes(sums: Sums) -> bool
     if bias <= BIAS {
         let room = BIAS - bias;
         let square = size * size;
-        let spread = LINES * (sums.q as u64);
+        let spread = LINES as u64 * sums.q as u64;
         if SPREAD_WEIGHT * spread <= ROOM_WEIGHT * (room * room) + SPREAD_WEIGHT * square {
             if spread <= SPREAD + square {
                 return sums.g < DEVIATION;
@@ -70,7 +72,7 @@ pub fn passes(sums: Sums) -> bool
 
 // Whether a set passes: all four analytes do.
 pub fn set_passes(moisture: Sums, protein: Sums, fat: Sums, salt: Sums) -> bool
-    requires { ⌜ Held 36 moisture × Held 36 protein × Held 36 fat × Held 36 salt ⌝ }
+    requires { ⌜ Held SET moisture × Held SET protein × Held SET fat × Held SET salt ⌝ }
     ensures { λ r. ⌜ r ≡ setPasses moisture protein fat salt ⌝ }
 {
     if passes(moisture) {

@@ -7,12 +7,13 @@ use mir.Syntax.{w32}
 use mir.Val.{toZ}
 use Rattle.laws.proofs.Word.{word, back, nat, abs-minus}
 use Rattle.unit.proofs.Bounds.{measure-small}
+use Rattle.unit.specs.Bounds.{LARGEST}
 use Rattle.unit.specs.Contribution.{measureOf, deviantOf}
 use borrow.Author.Needs.{needs}
 use Rattle.unit.proofs.contribution.deviant.Statement.{statement}
 use Rattle.unit.proofs.contribution.deviant.Tie as tie
 
-small : (c : tie.After-measure) → c .measure .result ≤ 10000
+small : (c : tie.After-measure) → c .measure .result ≤ LARGEST
 small c = omega (arith, c .measure .ensures, measure-small (c .before .args .size) (c .before .pre))
 
 result-is : (c : tie.After-measure) → toZ w32 (c .measure .result) ≡ pos (measureOf (c .before .args .size))

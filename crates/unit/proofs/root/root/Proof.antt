@@ -1,62 +1,87 @@
--- `unit::root::root` meets its contract. The invariant: the fourth power of q is within the bound, that of end is above it. The measure is
--- how far they are apart; where that is 1, q is the largest number of its kind. Assumes nothing.
-use mathlib.Core.Path.{_≡_, subst}
-use Prim.Native.Nat.{ℕ, suc, _+_, _-_, _/_, _^_, _≤_, _<_, zero-le}
+-- `unit::root::root` meets its contract. The first loop comes down from the guess until the fourth power is within the bound, the second goes up
+-- as long as it still is. Assumes nothing.
+use borrow.Author.Needs.{needs}
+use mathlib.Core.Path.{subst}
+use Prim.Native.Nat.{ℕ, _+_, _-_, _^_, _≤_, _<_}
+use native.Mathlib.Numerals.{add-one}
 use native.Mathlib.Omega.{arith}
-use lib.Dec.{lit<, lit≤}
 use Rattle.unit.specs.Difference.{rooted}
 use Rattle.unit.proofs.Largest.{unique}
-use Rattle.unit.proofs.Fourth.{fourth, square-fits, fourth-fits, root-small, root-right}
+use Rattle.unit.proofs.Fourth.{fourth-positive, root-small, root-right}
 use Rattle.unit.proofs.root.root.Statement.{statement}
 use Rattle.unit.proofs.root.root.Tie as tie
 
 abbrev Inv-loop : tie.InvT-loop
-Inv-loop m bound q₀ end₀ q end = (q ^ 4 ≤ rooted m) × (rooted m < end ^ 4) × (q < end) × (end ≤ 31623)
+Inv-loop m bound q₀ q = Unit {0}
 
 abbrev μ-loop : tie.MeasureT-loop
-μ-loop m bound q₀ end₀ q end = end - q
+μ-loop m bound q₀ q = q
 
-mul-bound : tie.Need-mul-bound Inv-loop μ-loop
+abbrev Inv-loop2 : tie.InvT-loop2
+Inv-loop2 m bound q₀ q = (q ^ 4 ≤ rooted m) × (q < 31623)
+
+abbrev μ-loop2 : tie.MeasureT-loop2
+μ-loop2 m bound q₀ q = 31623 - q
+
+-- where the fourth power is above the bound, there is a smaller number
+down : (c : tie.Then1 Inv-loop μ-loop Inv-loop2 μ-loop2) → 1 ≤ c .before .before .loop .q
+down c = fourth-positive _ (rooted (c .before .before .before .before .args .m)) (omega (arith, c .before .fourth .ensures, c .if1 .taken))
+
+mul-bound : tie.Need-mul-bound Inv-loop μ-loop Inv-loop2 μ-loop2
 mul-bound c = omega arith
 
-loop-holds : tie.Need-loop-holds Inv-loop μ-loop
-loop-holds c = (zero-le, root-small (c .args .m) (c .pre), lit< tt, lit≤ tt)
+guess-requires : tie.Need-guess-requires Inv-loop μ-loop Inv-loop2 μ-loop2
+guess-requires c κs = search needs
 
-add-loop : tie.Need-add-loop Inv-loop μ-loop
-add-loop c = omega arith
+loop-holds : tie.Need-loop-holds Inv-loop μ-loop Inv-loop2 μ-loop2
+loop-holds c = tt
 
-add-middle : tie.Need-add-middle Inv-loop μ-loop
-add-middle c = omega arith
+fourth-requires : tie.Need-fourth-requires Inv-loop μ-loop Inv-loop2 μ-loop2
+fourth-requires c κs = search needs
 
-mul-square : tie.Need-mul-square Inv-loop μ-loop
-mul-square c = square-fits ((c .before .loop .q + c .before .loop .end) / 2) (omega arith)
+sub-q : tie.Need-sub-q Inv-loop μ-loop Inv-loop2 μ-loop2
+sub-q c = down c
 
-mul-if1 : tie.Need-mul-if1 Inv-loop μ-loop
-mul-if1 c = fourth-fits ((c .before .loop .q + c .before .loop .end) / 2) (omega arith)
+loop-less : tie.Need-loop-less Inv-loop μ-loop Inv-loop2 μ-loop2
+loop-less c = omega (arith, down c)
 
-loop-less : tie.Need-loop-less Inv-loop μ-loop
-loop-less c = omega arith
+loop-again : tie.Need-loop-again Inv-loop μ-loop Inv-loop2 μ-loop2
+loop-again c = tt
 
-loop-again : tie.Need-loop-again Inv-loop μ-loop
-loop-again c = omega (arith, fourth ((c .before .before .loop .q + c .before .before .loop .end) / 2))
+loop2-holds : tie.Need-loop2-holds Inv-loop μ-loop Inv-loop2 μ-loop2
+loop2-holds c =
+    let within : c .before .before .loop .q ^ 4 ≤ rooted (c .before .before .before .before .args .m) = omega (arith, c .before .fourth .ensures, c .if1 .left) in
+    (within, root-small _ _ (c .before .before .before .before .pre) within)
 
-loop-less-2 : tie.Need-loop-less-2 Inv-loop μ-loop
-loop-less-2 c = omega arith
+add-fourth : tie.Need-add-fourth Inv-loop μ-loop Inv-loop2 μ-loop2
+add-fourth c = omega arith
 
-loop-again-2 : tie.Need-loop-again-2 Inv-loop μ-loop
-loop-again-2 c = omega (arith, fourth ((c .before .before .loop .q + c .before .before .loop .end) / 2))
+fourth-requires-2 : tie.Need-fourth-requires-2 Inv-loop μ-loop Inv-loop2 μ-loop2
+fourth-requires-2 c κs = omega arith
 
-cast-result : tie.Need-cast-result Inv-loop μ-loop
+add-q : tie.Need-add-q Inv-loop μ-loop Inv-loop2 μ-loop2
+add-q c = omega arith
+
+loop2-less : tie.Need-loop2-less Inv-loop μ-loop Inv-loop2 μ-loop2
+loop2-less c = omega arith
+
+loop2-again : tie.Need-loop2-again Inv-loop μ-loop Inv-loop2 μ-loop2
+loop2-again c =
+    let start = c .before .before .before .before .before .before .before in
+    let within : (c .before .before .loop2 .q + 1) ^ 4 ≤ rooted (start .args .m) = omega (arith, c .before .fourth2 .ensures, c .if2 .taken) in
+    (within, root-small _ _ (start .pre) within)
+
+cast-result : tie.Need-cast-result Inv-loop μ-loop Inv-loop2 μ-loop2
 cast-result c = omega arith
 
-returns : tie.Need-returns Inv-loop μ-loop
+returns : tie.Need-returns Inv-loop μ-loop Inv-loop2 μ-loop2
 returns c =
-    let l = c .before .loop in
-    let e : l .end ≡ suc (l .q) = omega arith in
-    let m = c .before .before .args .m in
-    unique 4 (rooted m)
-    (record { within = l .inv .0; largest = subst (λ (n : ℕ). rooted m < n ^ 4) e (l .inv .1) })
-    (root-right m (c .before .before .pre))
+    let start = c .before .before .before .before .before .before .before in
+    let q = c .before .before .loop2 .q in
+    let above : rooted (start .args .m) < (q + 1) ^ 4 = omega (arith, c .before .fourth2 .ensures, c .if2 .left) in
+    unique 4 (rooted (start .args .m))
+    (record { within = c .before .before .loop2 .inv .0; largest = subst (λ (n : ℕ). rooted (start .args .m) < n ^ 4) (add-one q) above })
+    (root-right (start .args .m) (start .pre))
 
 pub root-spec : {M : Type 1} → statement M
 root-spec =
@@ -64,15 +89,20 @@ root-spec =
     (tie.spec
     Inv-loop
     μ-loop
+    Inv-loop2
+    μ-loop2
     mul-bound
+    guess-requires
     loop-holds
-    add-loop
-    add-middle
-    mul-square
-    mul-if1
+    fourth-requires
+    sub-q
     loop-less
     loop-again
-    loop-less-2
-    loop-again-2
+    loop2-holds
+    add-fourth
+    fourth-requires-2
+    add-q
+    loop2-less
+    loop2-again
     cast-result
     returns)

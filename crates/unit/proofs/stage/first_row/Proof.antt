@@ -3,9 +3,9 @@ use mathlib.Core.Path.{ap₂, _∙_}
 use mathlib.Core.Bool.{Bool, not, _&&_}
 use Prim.Native.Nat.{ℕ}
 use lib.Dec.{leb, ltb, eqb}
-use Rattle.line.specs.Refused.{firstRow}
+use Rattle.line.specs.Refused.{firstRow, STUDY, MAINTENANCE}
 use Rattle.unit.specs.Stretch.{FULL}
-use Rattle.unit.specs.Take.{STUDY, MAINTENANCE, closedRow, stageRow, unitRowsOf}
+use Rattle.unit.specs.Take.{closedRow, stageRow, unitRowsOf}
 use borrow.Author.Needs.{needs}
 use Rattle.unit.proofs.stage.first_row.Statement.{statement}
 use Rattle.unit.proofs.stage.first_row.Tie as tie

@@ -1,17 +1,16 @@
 -- `take_record` meets its contract: each return is a case of `recordOf`. Assumes nothing.
 use mathlib.Core.Path.{_≡_, sym, ap, ap₂, subst, _∙_}
-use mathlib.Core.Bool.{Bool}
 use mathlib.Core.Logic.{⊎-elim}
 use Prim.Native.Nat.{ℕ}
 use lib.Dec.{eqb}
 use Rattle.grounds.specs.Miss.{again}
-use Rattle.line.specs.Refused.{firstRow}
-use Rattle.unit.specs.Sample.{monthOf, differencesOf}
-use Rattle.unit.specs.Set.{SET, enteredOf, HeldSums}
-use Rattle.unit.specs.Stretch.{FULL, Capped, anyOver, earlier, sampledOf}
-use Rattle.unit.specs.Take.{MAINTENANCE, unitRows, missedBy, sampleBy, studyBy}
+use Rattle.line.specs.Refused.{firstRow, MAINTENANCE}
+use Rattle.unit.specs.Set.{enteredOf}
+use Rattle.unit.specs.Bounds.{HeldSums, Capped}
+use Rattle.unit.specs.Study.{SET}
+use Rattle.unit.specs.Stretch.{anyOver, sampledOf}
+use Rattle.unit.specs.Take.{unitRows, missedBy, sampleBy, studyBy}
 use Rattle.unit.specs.declared.Unit as U
-use Rattle.unit.specs.declared.sample.Differences.{Differences}
 use Rattle.unit.specs.declared.set.Set.{Set}
 use Rattle.unit.specs.declared.stretch.Stretch.{Stretch}
 use Rattle.unit.proofs.Taking.{refused-row, accepted-study, accepted-missed, accepted-sample, is-open, room, capped, entered-held}

@@ -6,13 +6,13 @@ use lib.IntN.{ℤ, natAbs}
 use lib.Dec.{lit≤}
 use Rattle.laws.proofs.Word.{back}
 use Rattle.unit.specs.Contribution.{food}
-use Rattle.unit.specs.Charts.{Moderate, AllModerate}
+use Rattle.unit.specs.Bounds.{Moderate, AllModerate}
 use mir.Syntax.{w32}
 use mir.Val.{toZ, ofZ}
 use mir.Facts.{toZ-ofZ}
 use Rattle.unit.specs.Standardize.{rowBy, rowFrom}
 use Rattle.unit.specs.declared.difference.Difference.{Difference}
-use Rattle.unit.specs.Difference.{distance, differenceOf}
+use Rattle.unit.specs.Difference.{CAP, distance, differenceOf}
 use Rattle.unit.proofs.Value.{value-positive}
 use Rattle.unit.proofs.Bounds.{moderate, difference-small}
 use borrow.Author.Needs.{needs}
@@ -30,14 +30,14 @@ standardized-requires c κs =
 contribute-requires : tie.Need-contribute-requires
 contribute-requires c κs =
     let a = c .before .before .args in
-    subst (λ (d : Difference). natAbs (d .tenths) ≤ 999) (sym (c .standardized .ensures)) (difference-small (distance (a .reading) (a .mean)) (c .before .value .result))
+    subst (λ (d : Difference). natAbs (d .tenths) ≤ CAP) (sym (c .standardized .ensures)) (difference-small (distance (a .reading) (a .mean)) (c .before .value .result))
 
 -- contributions are moderate, so that a word holds each
 contributed : (c : tie.After-contribute) → AllModerate (c .contribute .result)
 contributed c =
     let a = c .before .before .before .args in
     let d = c .before .standardized .result in
-    let small = subst (λ (y : Difference). natAbs (y .tenths) ≤ 999) (sym (c .before .standardized .ensures)) (difference-small (distance (a .reading) (a .mean)) (c .before .before .value .result)) in
+    let small = subst (λ (y : Difference). natAbs (y .tenths) ≤ CAP) (sym (c .before .standardized .ensures)) (difference-small (distance (a .reading) (a .mean)) (c .before .before .value .result)) in
     subst AllModerate (sym (c .contribute .ensures)) (moderate food (d .tenths) (lit≤ tt) small)
 
 kept : (x : ℤ) → Moderate x → toZ w32 (ofZ w32 x) ≡ x

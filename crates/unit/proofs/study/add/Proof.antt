@@ -1,4 +1,4 @@
--- `unit::study::add` meets its contract: fewer than 36 differences leave room in each sum. Assumes nothing.
+-- `unit::study::add` meets its contract: fewer differences than a set has leave room in each sum. Assumes nothing.
 use mathlib.Core.Path.{_≡_, ap, _∙_}
 use Prim.Native.Nat.{_*_, _≤_, _<_, _^_}
 use native.Mathlib.Nat.{mul-le-mul}
@@ -7,6 +7,7 @@ use lib.IntN.{natAbs, _+ℤ_}
 use mir.Syntax.{w32}
 use mir.Val.{toZ, ofZ}
 use Rattle.laws.proofs.Word.{word, back, abs-plus}
+use Rattle.unit.specs.Difference.{CAP}
 use Rattle.unit.proofs.Bounds.{measure-small}
 use Rattle.unit.proofs.study.add.Statement.{statement}
 use Rattle.unit.proofs.study.add.Tie as tie
@@ -25,10 +26,10 @@ module _ (c : tie.After-size) where
   size-is : c .size .result ≡ natAbs (c .before .before .args .d .tenths)
   size-is = c .size .ensures ∙ ap natAbs (d-back (c .before .before))
 
-  size-small : c .size .result ≤ 999
+  size-small : c .size .result ≤ CAP
   size-small = omega (arith, size-is)
 
-  square-small : c .size .result * c .size .result ≤ 998001
+  square-small : c .size .result * c .size .result ≤ CAP * CAP
   square-small = mul-le-mul size-small size-small
 
 size-requires : tie.Need-size-requires

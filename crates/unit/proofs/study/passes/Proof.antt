@@ -9,7 +9,7 @@ use lib.IntN.{natAbs}
 use mir.Syntax.{w32}
 use mir.Val.{toZ, ofZ}
 use Rattle.laws.proofs.Word.{back}
-use Rattle.unit.specs.Study.{passesOf, spreadOf, roomOf}
+use Rattle.unit.specs.Study.{BIAS, passesOf, spreadOf, roomOf}
 use Rattle.unit.specs.declared.study.Sums.{Sums}
 use borrow.Author.Tests.{lt-leb, le-leb}
 use borrow.Author.Needs.{needs}
@@ -25,7 +25,7 @@ size-is c = c .size .ensures ∙ ap natAbs (s-back (c .before .before))
 square : (n m : ℕ) → n ≤ m → n * n ≤ m * m
 square n m h = mul-le-mul h h
 
--- once 5|S| is at most 1314
+-- once 5|S| is at most BIAS
 module _ (c : tie.Then1) where
   abbrev sums : Sums
   sums = c .before .before .before .args .sums
@@ -33,11 +33,11 @@ module _ (c : tie.Then1) where
   size-square : c .before .size .result * c .before .size .result ≤ 68644
   size-square = square (c .before .size .result) 262 (omega arith)
 
-  room-square : (1314 - 5 * c .before .size .result) * (1314 - 5 * c .before .size .result) ≤ 1726596
-  room-square = square (1314 - 5 * c .before .size .result) 1314 (omega arith)
+  room-square : (BIAS - 5 * c .before .size .result) * (BIAS - 5 * c .before .size .result) ≤ BIAS * BIAS
+  room-square = square (BIAS - 5 * c .before .size .result) BIAS (omega arith)
 
-  biased : leb (5 * natAbs (sums .s)) 1314 ≡ true
-  biased = le-leb (5 * natAbs (sums .s)) 1314 (omega (arith, size-is (c .before)))
+  biased : leb (5 * natAbs (sums .s)) BIAS ≡ true
+  biased = le-leb (5 * natAbs (sums .s)) BIAS (omega (arith, size-is (c .before)))
 
 size-requires : tie.Need-size-requires
 size-requires c κs = rw (s-back (c .before)) (omega (arith, c .before .pre .s))
@@ -53,6 +53,9 @@ mul-square c = record { fits = omega (arith, size-square c) }
 
 cast-spread : tie.Need-cast-spread
 cast-spread c = search needs
+
+cast-spread-2 : tie.Need-cast-spread-2
+cast-spread-2 c = search needs
 
 mul-spread : tie.Need-mul-spread
 mul-spread c = search needs
@@ -109,7 +112,7 @@ returns-4 : tie.Need-returns-4
 unfolding passesOf
 returns-4 c =
     let u = c .before .before .before .args .sums in
-    rw (lt-leb (5 * natAbs (u .s)) 1314 (omega (arith, size-is (c .before))))
+    rw (lt-leb (5 * natAbs (u .s)) BIAS (omega (arith, size-is (c .before))))
 
 pub passes-spec : {M : Type 1} → statement M
 passes-spec =
@@ -120,6 +123,7 @@ passes-spec =
     mul-bias
     mul-square
     cast-spread
+    cast-spread-2
     mul-spread
     mul-if2
     mul-if2-2
