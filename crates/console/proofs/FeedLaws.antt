@@ -1,22 +1,23 @@
--- The loop that feeds: what stands before each byte. Assumes nothing.
+-- The loop that feeds: what stands before each line, and what a part of a line and its end do to it. Assumes nothing.
 use Prim.Native.Nat.{ℕ, suc, _+_, _-_, _≤_, _<_}
 use mathlib.Core.Path.{_≡_, refl, sym, ap, _∙_}
 use mathlib.Core.Bool.{true, false, _&&_}
 use mathlib.Core.Logic.{⊎-elim}
-use mathlib.Core.List.{List, [], _∷_, _++_, append-assoc, append-nil}
-use native.Mathlib.Nat.{zero-add, add-zero}
+use mathlib.Core.List.{List, [], _∷_, _++_, append-nil}
+use native.Mathlib.Nat.{zero-add}
 use native.Mathlib.Numerals.{add-one}
 use native.Mathlib.Omega.{arith}
-use borrow.Author.Tests.{lt-ltb, le-ltb, eq-eqb, ne-eqb, ltb-false, leb-false}
+use borrow.Author.Tests.{lt-ltb, le-ltb, eq-eqb, ltb-false, leb-false}
 use lib.Dec.{ltb, leb}
-use lib.ListN.{length, take, drop, getD, set, length-append, drop-of-length-le}
-use lib.Seq.{take-suc, drop-cons}
+use lib.ListN.{length, take, drop, getD, length-append, drop-of-length-le, take-append-drop}
+use lib.Seq.{take-suc, take-add, drop-cons, drop-drop}
 use Rattle.laws.proofs.Bools.{either}
 use Rattle.console.specs.declared.Console.{Console}
 use Rattle.console.specs.declared.Fed.{Fed}
 use Rattle.console.specs.Buffer.{over}
 use Rattle.console.specs.Room.{ANSWER}
-use Rattle.console.specs.State.{HELD, pending, heldOf, steppedOf, stepText, consoleAfter, textAfter}
+use Rattle.console.specs.Lines.{hasNewline}
+use Rattle.console.specs.State.{pending, steppedOf, stepText, consoleAfter, textAfter}
 use Rattle.console.specs.Stands.{Stands, Reached}
 use Rattle.console.specs.Feed.{takes, fedOf, fedBuffer, Within}
 use Rattle.console.specs.Text.{NEWLINE, answerText}
@@ -26,17 +27,8 @@ use Rattle.unit.specs.Event.{eventByte, numberByte}
 use Rattle.unit.specs.declared.event.Event.{Event}
 use Rattle.unit.specs.declared.Taken.{Taken}
 use Rattle.console.proofs.BufferLaws.{over-none, over-over, over-length, over-front, line-length}
-use Rattle.console.proofs.StandLaws.{step-newline, step-other, made-after, stands-after}
-
-pub console-more : (c : Console) (xs : List ℕ) (x : ℕ) → consoleAfter c (xs ++ x ∷ []) ≡ steppedOf (consoleAfter c xs) x
-console-more c [] x = refl
-console-more c (y ∷ xs) x = console-more (steppedOf c y) xs x
-
-pub text-more : (c : Console) (xs : List ℕ) (x : ℕ) → textAfter c (xs ++ x ∷ []) ≡ textAfter c xs ++ stepText (consoleAfter c xs) x
-text-more c [] x = append-nil (stepText c x)
-text-more c (y ∷ xs) x =
-    ap (λ (t : List ℕ). stepText c y ++ t) (text-more (steppedOf c y) xs x)
-    ∙ sym (append-assoc (stepText c y) (textAfter (steppedOf c y) xs) (stepText (consoleAfter (steppedOf c y) xs) x))
+use Rattle.console.proofs.StandLaws.{step-newline, made-after, stands-after}
+use Rattle.console.proofs.PartLaws.{part-length, console-append, text-append, part-text, part-takes}
 
 pub answer-length : (e : Event) → length (answerText e) ≡ ANSWER
 answer-length e = line-length (eventByte e ∷ numberByte e ∷ [])
@@ -95,13 +87,13 @@ module _ {c₀ : Console} {input output₀ : List ℕ} where
       let text = textAfter c₀ (take i input) in
       let next : take (i + 1) input ≡ take i input ++ x ∷ [] = rw add-one (take-suc input i 0 h) in
       let more : textAfter c₀ (take (i + 1) input) ≡ text ++ step =
-      ap (textAfter c₀) next ∙ text-more c₀ (take i input) x ∙ ap (λ (d : Console). text ++ stepText d x) (sym (g .state)) in
+      ap (textAfter c₀) next ∙ text-append c₀ (take i input) (x ∷ []) ∙ ap (λ (d : Console). text ++ (stepText d x ++ [])) (sym (g .state)) ∙ ap (λ (t : List ℕ). text ++ t) (append-nil step) in
       let here : w ≡ 0 + length text = omega (arith, g .place) in
       let room : length output₀ - (w + length step) ≡ length output₀ - w - length step = omega arith in
       record {
         within = omega arith;
         fits = omega (arith, g .fits);
-        state = ap (λ (d : Console). steppedOf d x) (g .state) ∙ sym (console-more c₀ (take i input) x) ∙ ap (consoleAfter c₀) (sym next);
+        state = ap (λ (d : Console). steppedOf d x) (g .state) ∙ sym (console-append c₀ (take i input) (x ∷ [])) ∙ ap (consoleAfter c₀) (sym next);
         place = ap (λ (n : ℕ). n + length step) (g .place) ∙ sym (length-append text step) ∙ ap length (sym more);
         text =
             ap (λ (b : List ℕ). over b w step) (g .text)
@@ -111,31 +103,44 @@ module _ {c₀ : Console} {input output₀ : List ℕ} where
         left = g .left ∙ rw (takes-more input c i (length output₀ - w) h k, room) (omega arith);
       }
 
-  -- ---- the three ways of a turn
+  -- ---- the two parts of a turn
 
-  module _ {c : Console} {output : List ℕ} {i w : ℕ} (g : Going c₀ input output₀ c output i w) (h : i < length input) (k : ANSWER ≤ length output₀ - w) where
+  module _ {c : Console} {output : List ℕ} {i w : ℕ} (g : Going c₀ input output₀ c output i w) (k : ANSWER ≤ length output₀ - w) where
+    -- a part of a line is held, as far as there is room
+    pub going-part : (n : ℕ) → i + n ≤ length input → hasNewline (take n (drop i input)) ≡ false
+        → Going c₀ input output₀ (consoleAfter c (take n (drop i input))) output (i + n) w
+    going-part n h clear =
+        let part = take n (drop i input) in
+        let next : take (i + n) input ≡ take i input ++ part = take-add i n input in
+        let state : consoleAfter c part ≡ consoleAfter c₀ (take (i + n) input) =
+        ap (λ (d : Console). consoleAfter d part) (g .state) ∙ sym (console-append c₀ (take i input) part) ∙ ap (consoleAfter c₀) (sym next) in
+        let text : textAfter c₀ (take (i + n) input) ≡ textAfter c₀ (take i input) =
+        ap (textAfter c₀) next
+        ∙ text-append c₀ (take i input) part
+        ∙ ap (λ (t : List ℕ). textAfter c₀ (take i input) ++ t) (part-text (consoleAfter c₀ (take i input)) part clear)
+        ∙ append-nil (textAfter c₀ (take i input)) in
+        let cut : drop i input ≡ part ++ drop (i + n) input = sym (take-append-drop n (drop i input)) ∙ ap (λ (t : List ℕ). part ++ t) (drop-drop n i input) in
+        let left : takes c (drop i input) (length output₀ - w) ≡ n + takes (consoleAfter c part) (drop (i + n) input) (length output₀ - w) =
+        ap (λ (t : List ℕ). takes c t (length output₀ - w)) cut
+        ∙ part-takes c part (drop (i + n) input) (length output₀ - w) clear k
+        ∙ ap (λ (m : ℕ). m + takes (consoleAfter c part) (drop (i + n) input) (length output₀ - w)) (part-length input i n h) in
+        record {
+          within = h;
+          fits = g .fits;
+          state = state;
+          place = g .place ∙ ap length (sym text);
+          text = g .text ∙ ap (over output₀ 0) (sym text);
+          left = omega (arith, g .left, left);
+        }
+
     -- the line ends, and its answer is written
-    pub going-line : (t : Taken) (next : List ℕ) (to : ℕ) → getD input i 0 ≡ NEWLINE → t ≡ takenOf (c .unit) (pending c)
+    pub going-line : (t : Taken) (next : List ℕ) (to : ℕ) → i < length input → getD input i 0 ≡ NEWLINE → t ≡ takenOf (c .unit) (pending c)
         → to ≡ w + length (answerText (t .event)) → next ≡ over output w (answerText (t .event))
         → Going c₀ input output₀ (record { unit = t .unit; held = 0; bytes = c .bytes }) next (i + 1) to
-    going-line t next to e r l o =
+    going-line t next to h e r l o =
         let p = step-newline c (getD input i 0) (eq-eqb (getD input i 0) NEWLINE e) in
         let five : length (stepText c (getD input i 0)) ≤ ANSWER = rw (p .1) (omega (arith, answer-length (takenOf (c .unit) (pending c) .event))) in
         rw (l, o, r) (rw (p .0, p .1) at (going-on g h k five))
-
-    -- another byte is held, or is past what is held
-    going-other : (getD input i 0 ≡ NEWLINE → ⊥) → Going c₀ input output₀ (heldOf c (getD input i 0)) output (i + 1) w
-    going-other n =
-        let p = step-other c (getD input i 0) (ne-eqb (getD input i 0) NEWLINE n) in
-        let none : length (stepText c (getD input i 0)) ≤ ANSWER = rw (p .1) (omega arith) in
-        rw (p .0, p .1, over-none output w, add-zero w) at (going-on g h k none)
-
-    pub going-held : (getD input i 0 ≡ NEWLINE → ⊥) → c .held < HELD
-        → Going c₀ input output₀ (record { unit = c .unit; held = c .held + 1; bytes = set (c .bytes) (c .held) (getD input i 0) }) output (i + 1) w
-    going-held n l = rw (lt-ltb (c .held) HELD l) at (going-other n)
-
-    pub going-past : (getD input i 0 ≡ NEWLINE → ⊥) → HELD ≤ c .held → Going c₀ input output₀ c output (i + 1) w
-    going-past n l = rw (le-ltb (c .held) HELD l) at (going-other n)
 
   pub going-length : {c : Console} {output : List ℕ} {i w : ℕ} → Going c₀ input output₀ c output i w → length output ≡ length output₀
   going-length {c} {output} {i} {w} g = ap length (g .text) ∙ over-length output₀ 0 (textAfter c₀ (take i input)) (omega (arith, g .fits, g .place))

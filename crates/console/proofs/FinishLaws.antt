@@ -1,6 +1,6 @@
 -- The end of the input: the unended line's answer and the status are what `transcript` has after the answers so far. Assumes nothing.
 use Prim.Native.Nat.{ℕ, suc, _+_, _≤_, _<_}
-use mathlib.Core.Path.{_≡_, sym, ap, _∙_}
+use mathlib.Core.Path.{_≡_, refl, sym, ap, _∙_}
 use mathlib.Core.Bool.{Bool, true, false, cond}
 use mathlib.Core.List.{List, [], _∷_, _++_, append-assoc, append-nil}
 use native.Mathlib.Omega.{arith}
@@ -15,16 +15,18 @@ use Rattle.unit.specs.declared.Taken.{Taken}
 use Rattle.unit.specs.declared.Unit as U
 use Rattle.unit.specs.declared.report.Report.{Report}
 use Rattle.console.specs.declared.Console.{Console}
-use Rattle.console.specs.Text.{answerText, statusText}
+use Rattle.console.specs.Text.{NEWLINE, answerText, statusText}
 use Rattle.console.specs.Lines.{ended, rest, lastLine, linesOf}
 use Rattle.console.specs.Transcript.{answers, textOf, transcript}
 use Rattle.console.specs.Buffer.{over}
 use Rattle.console.specs.Room.{ANSWER, LAST, STATUS}
 use Rattle.console.specs.State.{HELD, pending}
 use Rattle.console.specs.Stands.{Stands}
+use Rattle.console.specs.Feed.{takes, fedOf, fedBuffer}
 use Rattle.console.specs.Finish.{lastUnit, lastText, finalText, finishedOf, finishedBuffer}
 use Rattle.console.proofs.BufferLaws.{over-length, over-over, over-front}
 use Rattle.console.proofs.LineLaws.{after-append, answers-append, taken-cut}
+use Rattle.console.proofs.StandLaws.{step-newline}
 use Rattle.console.proofs.FeedLaws.{answer-length}
 use Rattle.console.proofs.StatusLaws.{status-length}
 
@@ -36,6 +38,17 @@ module _ (c : Console) where
   pub last-some : (c .held ≡ 0 → ⊥) → (lastUnit c ≡ takenOf (c .unit) (pending c) .unit) × (lastText c ≡ answerText (takenOf (c .unit) (pending c) .event))
   unfolding lastUnit lastText
   last-some n = let t = ne-eqb (c .held) 0 n in (rw t, rw t)
+
+  -- a line under way ends as its newline would end it
+  pub ended-by-newline : (output : List ℕ) → (c .held ≡ 0 → ⊥) → ANSWER ≤ length output
+      → (fedOf c (NEWLINE ∷ []) (length output) .console .unit ≡ lastUnit c)
+      × (fedOf c (NEWLINE ∷ []) (length output) .written ≡ length (lastText c))
+      × (fedBuffer c (NEWLINE ∷ []) output ≡ over output 0 (lastText c))
+  unfolding takes
+  ended-by-newline output n h =
+      let some = last-some n in
+      let step = step-newline c NEWLINE refl in
+      rw (le-ltb (length output) ANSWER h, some .0, some .1, step .0, step .1, append-nil) (refl, refl, refl)
 
   pub last-length : length (lastText c) ≤ ANSWER
   unfolding lastText

@@ -3,6 +3,7 @@ pub mod BufferLaws
 pub mod LineLaws
 pub mod SplitLaws
 pub mod StandLaws
+pub mod PartLaws
 pub mod FeedLaws
 pub mod StatusLaws
 pub mod FinishLaws

@@ -1,18 +1,28 @@
--- The lines of the charts: how long they are, and that one more is put behind the others. Assumes nothing.
+-- The lines of the charts: a value's bytes, how long the lines are, and that one more is put behind the others. Assumes nothing.
 use Prim.Native.Nat.{ℕ, zero, suc, _+_, _*_, _/_, _%_, _^_, _≤_, _<_}
 use mathlib.Core.Path.{_≡_, sym, ap, _∙_}
 use mathlib.Core.Bool.{Bool, true, false, cond}
-use mathlib.Core.List.{List, []}
+use mathlib.Core.List.{List, [], _++_}
 use native.Mathlib.Numerals.{add-one}
 use native.Mathlib.Omega.{arith}
 use borrow.Author.Tests.{eq-eqb, ne-eqb}
 use lib.ListN.{length, getD, length-append}
+use Rattle.line.specs.Fields.{bytes2, bytes4}
+use Rattle.unit.specs.Claim.{CHARTS, bitAt, noRow}
 use Rattle.unit.specs.declared.report.Row.{Row}
 use Rattle.unit.specs.declared.report.Report.{Report}
 use Rattle.console.specs.Room.{STATUS, RUNS, RUN}
 use Rattle.console.specs.Buffer.{over}
-use Rattle.console.specs.Text.{lineText, runBytes, isSet, chartText, noRow, runTexts, stageBytes, statusText, CHARTS}
+use Rattle.console.specs.Text.{lineText, runBytes, chartText, runTexts, stageBytes, statusText}
 use Rattle.console.proofs.BufferLaws.{over-none, over-over, over-length, line-length}
+
+-- a value's four bytes are the two of its upper half and the two of its lower
+pub bytes-by-halves : (n : ℕ) → bytes2 (n / 65536) ++ bytes2 (n % 65536) ≡ bytes4 n
+bytes-by-halves n =
+    let first : n / 65536 / 256 ≡ n / 16777216 = omega arith in
+    let third : n % 65536 / 256 ≡ n / 256 % 256 = omega arith in
+    let fourth : n % 65536 % 256 ≡ n % 256 = omega arith in
+    rw (first, third, fourth)
 
 pub chart-clear : (mask chart : ℕ) (row : Row) → (mask / 2 ^ chart % 2 ≡ 1 → ⊥) → chartText mask chart row ≡ []
 unfolding chartText
@@ -24,7 +34,7 @@ chart-set mask chart row h = rw (eq-eqb (mask / 2 ^ chart % 2) 1 h)
 
 pub chart-length : (mask chart : ℕ) (row : Row) → length (chartText mask chart row) ≤ RUN
 unfolding chartText
-chart-length mask chart row = go (isSet mask chart)
+chart-length mask chart row = go (bitAt chart mask)
   where
     go : (b : Bool) → length (cond b (lineText (runBytes chart row)) []) ≤ RUN
     go true = omega (arith, line-length (runBytes chart row))

@@ -5,11 +5,12 @@ use mathlib.Core.List.{[], _∷_, _++_}
 use lib.IntN.{pos, negsuc}
 use lib.ListN.{replicate}
 use Rattle.line.specs.Digits.{digitOf, digitsOf}
+use Rattle.unit.specs.Claim.{noRow}
 use Rattle.unit.specs.declared.event.Event.the-variants.{Refused, UnderWay, ByMisses}
 use Rattle.unit.specs.declared.report.Report.{Report}
 use Rattle.unit.specs.declared.report.Row.{Row}
 use Rattle.console.specs.Lines.{endedAfter, restAfter, linesOf}
-use Rattle.console.specs.Text.{answerText, chartText, noRow, runTexts, statusText}
+use Rattle.console.specs.Text.{answerText, chartText, runTexts, statusText}
 
 -- no line; an unended one; an empty one and an unended one; two ended ones, the second empty
 lines : (linesOf [] ≡ []) × (linesOf (97 ∷ []) ≡ (97 ∷ []) ∷ []) × (linesOf (10 ∷ 97 ∷ []) ≡ [] ∷ (97 ∷ []) ∷ [])

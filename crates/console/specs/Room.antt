@@ -1,6 +1,6 @@
 -- How many bytes the console's texts may take: two digits to a byte, and a newline.
 use Prim.Native.Nat.{ℕ, _+_, _*_}
-use Rattle.console.specs.Text.{CHARTS}
+use Rattle.unit.specs.Claim.{CHARTS}
 
 -- an answer has 2 bytes
 abbrev pub ANSWER : ℕ

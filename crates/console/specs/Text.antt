@@ -1,11 +1,12 @@
 -- Document 01, "The program": the lines of text that are printed. Each is bytes in hexadecimal, high bytes first, and a newline.
-use Prim.Native.Nat.{ℕ, zero, suc, _-_, _/_, _%_, _^_}
+use Prim.Native.Nat.{ℕ, zero, suc, _-_, _^_}
 use mathlib.Core.Bool.{Bool, true, false, cond}
 use mathlib.Core.List.{List, [], _∷_, _++_}
-use lib.Dec.{eqb}
 use lib.IntN.{ℤ, pos, negsuc}
 use lib.ListN.{getD}
 use Rattle.line.specs.Digits.{digitsOf}
+use Rattle.line.specs.Fields.{bytes2, bytes4}
+use Rattle.unit.specs.Claim.{CHARTS, bitAt, noRow}
 use Rattle.unit.specs.Event.{eventByte, numberByte}
 use Rattle.unit.specs.declared.event.Event.{Event}
 use Rattle.unit.specs.declared.report.Row.{Row}
@@ -22,13 +23,6 @@ lineText bytes = digitsOf bytes ++ NEWLINE ∷ []
 abbrev pub answerText : Event → List ℕ
 answerText e = lineText (eventByte e ∷ numberByte e ∷ [])
 
--- high bytes first
-abbrev pub twoBytes : ℕ → List ℕ
-twoBytes n = n / 256 ∷ n % 256 ∷ []
-
-abbrev pub fourBytes : ℕ → List ℕ
-fourBytes n = twoBytes (n / 65536) ++ twoBytes (n % 65536)
-
 -- 01 if misses opened probation
 abbrev pub missesByte : Bool → ℕ
 missesByte true = 1
@@ -36,7 +30,7 @@ missesByte false = 0
 
 -- stage 1 byte, samples in the stretch 2, mask of charts over 2, misses 1
 abbrev pub stageBytes : Report → List ℕ
-stageBytes r = r .stage ∷ twoBytes (r .samples) ++ twoBytes (r .mask) ++ missesByte (r .misses) ∷ []
+stageBytes r = r .stage ∷ bytes2 (r .samples) ++ bytes2 (r .mask) ++ missesByte (r .misses) ∷ []
 
 -- a value's 32 bits: a negative one is taken from 2³²
 abbrev pub bitsOf : ℤ → ℕ
@@ -45,28 +39,16 @@ bitsOf (negsuc n) = 2 ^ 32 - suc n
 
 -- chart 1 byte, first sample 2, last 2, value 4
 abbrev pub runBytes : ℕ → Row → List ℕ
-runBytes chart row = chart ∷ twoBytes (row .first) ++ twoBytes (row .last) ++ fourBytes (bitsOf (row .value))
+runBytes chart row = chart ∷ bytes2 (row .first) ++ bytes2 (row .last) ++ bytes4 (bitsOf (row .value))
 
--- bit = chart number
-abbrev pub isSet : ℕ → ℕ → Bool
-isSet mask chart = eqb (mask / 2 ^ chart % 2) 1
-
--- a line if the chart's bit is set
+-- a line if the chart's bit is set: bit = chart number
 unfoldable pub chartText : ℕ → ℕ → Row → List ℕ
-chartText mask chart row = cond (isSet mask chart) (lineText (runBytes chart row)) []
-
--- where no chart stands
-abbrev pub noRow : Row
-noRow = record { over = false; first = 0; last = 0; value = pos 0 }
+chartText mask chart row = cond (bitAt chart mask) (lineText (runBytes chart row)) []
 
 -- a line per set bit below n, lowest first
 unfoldable pub runTexts : ℕ → List Row → ℕ → List ℕ
 runTexts mask rows zero = []
 runTexts mask rows (suc chart) = runTexts mask rows chart ++ chartText mask chart (getD rows chart noRow)
-
--- 4 charts for each of 4 analytes
-abbrev pub CHARTS : ℕ
-CHARTS = 16
 
 abbrev pub statusText : Report → List ℕ
 statusText r = lineText (stageBytes r) ++ runTexts (r .mask) (r .rows) CHARTS

@@ -1,11 +1,13 @@
 // The text around the unit: bytes in, bytes out, with no input or output of its own.
 
 mod answer;
+mod newline;
 mod report;
 mod text;
 
 use answer::ANSWER;
 use answer::put_answer;
+use newline::line_end;
 use report::STATUS;
 use report::put_status;
 use text::NEWLINE;
@@ -14,13 +16,15 @@ use unit::new_unit;
 use unit::status;
 use unit::take;
 ghost use mathlib.Core.Path.{_≡_};
+ghost use mathlib.Core.Bool.{false};
 ghost use Prim.Native.Nat.{ℕ, _≤_};
 ghost use mathlib.Core.List.{List, _++_};
 ghost use lib.ListN.{length, take};
 ghost use Rattle.console.specs.Transcript.{textOf, transcript};
 ghost use Rattle.console.specs.Buffer.{over};
 ghost use Rattle.console.specs.Room.{ANSWER, LAST};
-ghost use Rattle.console.specs.State.{newConsole};
+ghost use Rattle.console.specs.Lines.{hasNewline};
+ghost use Rattle.console.specs.State.{newConsole, consoleAfter};
 ghost use Rattle.console.specs.Stands.{Stands, Reached};
 ghost use Rattle.console.specs.Feed.{fedOf, fedBuffer, Within};
 ghost use Rattle.console.specs.Finish.{lastUnit, lastText, finishedOf, finishedBuffer};
@@ -30,7 +34,7 @@ ghost use Rattle.console.specs.Finish.{lastUnit, lastText, finishedOf, f
 const HELD: usize = 69;
 
 // How many bytes the end has at most: the unended line's answer, and the status.
-const LAST: usize = ANSWER + STATUS;
+pub const LAST: usize = ANSWER + STATUS;
 
 // A unit, and the part of a line not yet ended: the first `held` bytes of `bytes`.
 pub struct Console {
@@ -57,40 +61,61 @@ pub fn new_console() -> Console
     }
 }
 
-// Takes the input byte by byte and answers each line that ends, while the output has room for one
-// more answer.
-pub fn feed(console: Console, input: &[u8], output: &mut [u8]) -> Fed
-    requires { ⌜ Reached console ⌝ }
-    ensures whole { λ r. ⌜ r ≡ fedOf console (now (input .entry)) (length (now (output .entry))) ⌝ }
-    ensures bytes { λ r. ⌜ now (output .exit) ≡ fedBuffer console (now (input .entry)) (now (output .entry)) ⌝ }
+// Holds the next part of a line, as far as there is room.
+fn hold(console: Console, part: &[u8]) -> Console
+    requires { ⌜ hasNewline (now part) ≡ false ⌝ }
+    ensures { λ r. ⌜ r ≡ consoleAfter console (now (part .entry)) ⌝ }
+{
+    let unit = console.unit;
+    let mut held = console.held;
+    let mut bytes = console.bytes;
+    let mut i = 0;
+    while (i < part.len()) & (held < HELD) {
+        bytes[held] = part[i];
+        held += 1;
+        i += 1;
+    }
+    Console { unit, held, bytes }
+}
+
+// Takes the input line by line and answers each that ends, while the output has room for one more
+// answer.
+pub fn feed(start: Console, input: &[u8], output: &mut [u8]) -> Fed
+    requires { ⌜ Reached start ⌝ }
+    ensures whole { λ r. ⌜ r ≡ fedOf start (now (input .entry)) (length (now (output .entry))) ⌝ }
+    ensures bytes { λ r. ⌜ now (output .exit) ≡ fedBuffer start (now (input .entry)) (now (output .entry)) ⌝ }
     ensures reached { λ r. ⌜ Reached (r .console) ⌝ }
     ensures within { λ r. ⌜ Within (now (input .entry)) (now (output .exit)) r ⌝ }
-    ensures stands { λ r. ⌜ ((before : List ℕ) → Stands console before
+    ensures stands { λ r. ⌜ ((before : List ℕ) → Stands start before
         → Stands (r .console) (before ++ take (r .taken) (now (input .entry)))
         × (textOf (before ++ take (r .taken) (now (input .entry))) ≡ textOf before ++ take (r .written) (now (output .exit)))) ⌝ }
 {
-    let mut unit = console.unit;
-    let mut held = console.held;
-    let mut bytes = console.bytes;
+    let mut console = start;
     let mut taken = 0;
     let mut written = 0;
     while (taken < input.len()) & (ANSWER <= output.len() - written) {
-        let byte = input[taken];
-        if byte == NEWLINE {
+        let rest = &input[taken..];
+        let end = line_end(rest);
+        console = hold(console, &rest[..end]);
+        taken += end;
+        if taken < input.len() {
+            let unit = console.unit;
+            let held = console.held;
+            let bytes = console.bytes;
             let answer = take(unit, &bytes[..held]);
             let event = answer.event;
-            unit = answer.unit;
-            held = 0;
+            let after = answer.unit;
+            console = Console {
+                unit: after,
+                held: 0,
+                bytes,
+            };
             written = put_answer(event, output, written);
-        } else if held < HELD {
-            bytes[held] = byte;
-            held += 1;
+            taken += 1;
         }
-        taken += 1;
     }
-    let after = Console { unit, held, bytes };
     Fed {
-        console: after,
+        console,
         taken,
         written,
     }
@@ -102,6 +127,7 @@ struct Last {
     written: usize,
 }
 
+// Ends a line that is under way, as its newline would.
 fn end_line(console: Console, output: &mut [u8]) -> Last
     requires { ⌜ Reached console × (ANSWER ≤ length (now output)) ⌝ }
     ensures unit { λ r. ⌜ r .unit ≡ lastUnit console ⌝ }
@@ -109,18 +135,16 @@ fn end_line(console: Console, output: &mut [u8]) -> Last
     ensures text { λ r. ⌜ now (output .exit) ≡ over (now (output .entry)) 0 (lastText console) ⌝ }
 {
     let unit = console.unit;
-    let held = console.held;
-    let bytes = console.bytes;
-    if held == 0 {
+    if console.held == 0 {
         return Last { unit, written: 0 };
     }
-    let answer = take(unit, &bytes[..held]);
-    let event = answer.event;
-    let after = answer.unit;
-    let written = put_answer(event, output, 0);
+    let newline = [NEWLINE];
+    let fed = feed(console, &newline, output);
+    let ended = fed.console;
+    let after = ended.unit;
     Last {
         unit: after,
-        written,
+        written: fed.written,
     }
 }
 

@@ -6,7 +6,8 @@ use unit::report::Row;
 ghost use mathlib.Core.Path.{_≡_};
 ghost use Prim.Native.Nat.{_+_, _<_, _≤_, _/_, _%_};
 ghost use lib.ListN.{length};
-ghost use Rattle.console.specs.Text.{bitsOf, missesByte, stageBytes, runBytes, chartText, CHARTS, runTexts, statusText};
+ghost use Rattle.unit.specs.Claim.{CHARTS};
+ghost use Rattle.console.specs.Text.{bitsOf, missesByte, stageBytes, runBytes, chartText, runTexts, statusText};
 ghost use Rattle.console.specs.Room.{RUNS, STATUS};
 ghost use Rattle.console.specs.Buffer.{over};
 

@@ -1,20 +1,14 @@
 // A line of hexadecimal text, put into a buffer.
 
+use line::high_digit;
+use line::low_digit;
 ghost use mathlib.Core.Path.{_≡_};
-ghost use Prim.Native.Nat.{_+_, _<_, _≤_};
+ghost use Prim.Native.Nat.{_+_, _≤_};
 ghost use lib.ListN.{length};
-ghost use Rattle.line.specs.Digits.{digitOf};
 ghost use Rattle.console.specs.Text.{lineText};
 ghost use Rattle.console.specs.Buffer.{over};
 
 pub const NEWLINE: u8 = 10;
-
-fn digit(n: u8) -> u8
-    requires { ⌜ n < 16 ⌝ }
-    ensures { λ r. ⌜ r ≡ digitOf n ⌝ }
-{
-    if n < 10 { b'0' + n } else { b'a' + (n - 10) }
-}
 
 // Puts the digits of the bytes and a newline into the buffer, from `at` on, and gives the place
 // after them.
@@ -27,8 +21,8 @@ pub fn put_line(bytes: &[u8], buffer: &mut [u8], at: usize) -> usize
     let mut i = 0;
     while i < bytes.len() {
         let byte = bytes[i];
-        buffer[to] = digit(byte / 16);
-        buffer[to + 1] = digit(byte % 16);
+        buffer[to] = high_digit(byte);
+        buffer[to + 1] = low_digit(byte);
         to += 2;
         i += 1;
     }

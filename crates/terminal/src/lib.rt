@@ -1,6 +1,7 @@
 // Answers the lines of standard input on standard output, and then gives the status. Where a read
 // or a write fails it stops.
 use console::Console;
+use console::LAST;
 use console::feed;
 use console::finish;
 use console::new_console;
@@ -12,9 +13,6 @@ ghost use mathlib.Core.Path.{_≡_};
 ghost use lib.ListN.{length};
 ghost use Rattle.console.specs.Room.{ANSWER, LAST};
 ghost use Rattle.console.specs.Stands.{Reached};
-
-// How many bytes the console's longest end has.
-const ROOM: usize = 322;
 
 // A console between two pieces of the input: whether more is to be read, and whether no read or
 // write has failed.
@@ -90,9 +88,9 @@ fn converse(input: &mut [u8], output: &mut [u8]) -> bool
 // no read or write failed. An output buffer that could be too short for the end is refused, before
 // anything is read. What is read and written no contract can say.
 pub fn run(input: &mut [u8], output: &mut [u8]) -> bool
-    ensures { λ r. ⌜ (length (now (output .entry)) < LAST → r ≡ false) ⌝ }
+    ensures { λ r. ⌜ (length (now (output .entry)) < LAST → (r ≡ false) × (now (input .exit) ≡ now (input .entry)) × (now (output .exit) ≡ now (output .entry))) ⌝ }
 {
-    if output.len() < ROOM {
+    if output.len() < LAST {
         return false;
     }
     converse(input, output)

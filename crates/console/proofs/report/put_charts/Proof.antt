@@ -4,8 +4,8 @@ use native.Mathlib.Omega.{arith}
 use Prim.Native.Nat.{_+_, _-_, _≤_}
 use mathlib.Core.Path.{_≡_, refl}
 use lib.ListN.{length}
+use Rattle.unit.specs.Claim.{CHARTS}
 use Rattle.console.specs.Room.{RUNS}
-use Rattle.console.specs.Text.{CHARTS}
 use Rattle.console.proofs.StatusLaws.{Charted, charted-none, charted-more, charted-length, charted-fits}
 use Rattle.console.proofs.report.put_charts.Statement.{statement}
 use Rattle.console.proofs.report.put_charts.Tie as tie

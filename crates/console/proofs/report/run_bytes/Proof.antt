@@ -1,9 +1,11 @@
 -- `run_bytes` meets its contract: each byte is what its call says. Assumes nothing.
-use mathlib.Core.Path.{_≡_}
+use mathlib.Core.Path.{_≡_, sym}
 use mir.Syntax.{w32}
 use mir.Val.{toZ, ofZ}
 use mir.Facts.{toZ-ofZ}
 use borrow.Author.Needs.{needs}
+use Rattle.console.specs.Text.{bitsOf}
+use Rattle.console.proofs.StatusLaws.{bytes-by-halves}
 use Rattle.console.proofs.report.run_bytes.Statement.{statement}
 use Rattle.console.proofs.report.run_bytes.Tie as tie
 
@@ -45,7 +47,7 @@ returns c =
     let row = c .before .before .before .before .before .before .before .before .before .before .args .row in
     let back : toZ w32 (ofZ w32 (row .value)) ≡ row .value = toZ-ofZ (search needs) in
     rw
-    (c .before .before .before .before .before .before .before .high .ensures, c .before .before .before .before .before .before .low .ensures, c .before .before .before .before .before .high2 .ensures, c .before .before .before .before .low2 .ensures, c .before .before .before .high3 .ensures, c .before .before .low3 .ensures, c .before .high4 .ensures, c .low4 .ensures, c .before .before .before .before .before .before .before .before .bits-of .ensures, back)
+    (sym (bytes-by-halves (bitsOf (row .value))), c .before .before .before .before .before .before .before .high .ensures, c .before .before .before .before .before .before .low .ensures, c .before .before .before .before .before .high2 .ensures, c .before .before .before .before .low2 .ensures, c .before .before .before .high3 .ensures, c .before .before .low3 .ensures, c .before .high4 .ensures, c .low4 .ensures, c .before .before .before .before .before .before .before .before .bits-of .ensures, back)
 
 pub run-bytes-spec : {M : Type 1} → statement M
 run-bytes-spec =

@@ -28,14 +28,14 @@ loop-holds c =
 shared-slice-read-byte : tie.Need-shared-slice-read-byte Inv-loop μ-loop
 shared-slice-read-byte c = search needs
 
-digit-requires : tie.Need-digit-requires Inv-loop μ-loop
-digit-requires c κs = omega (arith, c .shared-slice-known2 .given (c .before .before .loop .i))
+high-digit-requires : tie.Need-high-digit-requires Inv-loop μ-loop
+high-digit-requires c κs = search needs
 
 slice-write-buffer : tie.Need-slice-write-buffer Inv-loop μ-loop
 slice-write-buffer c = search needs
 
-digit-requires-2 : tie.Need-digit-requires-2 Inv-loop μ-loop
-digit-requires-2 c κs = omega (arith, c .before .shared-slice-known2 .given (c .before .before .before .loop .i))
+low-digit-requires : tie.Need-low-digit-requires Inv-loop μ-loop
+low-digit-requires c κs = search needs
 
 add-buffer : tie.Need-add-buffer Inv-loop μ-loop
 add-buffer c = search needs
@@ -61,8 +61,8 @@ loop-again c =
       at .inv .2,
       simp length-set (at .inv .3),
       rw (at .inv .4)
-          (digits-more (now (start .buffer)) (now (start .bytes)) (start .at) (at .i) (at .to) (c .before .digit .result) (c .digit2 .result) (omega arith) (omega arith) (omega arith)
-          (c .before .digit .ensures) (c .digit2 .ensures)),
+          (digits-more (now (start .buffer)) (now (start .bytes)) (start .at) (at .i) (at .to) (c .before .high-digit .result) (c .low-digit .result) (omega arith) (omega arith) (omega arith)
+          (c .before .high-digit .ensures) (c .low-digit .ensures)),
     )
 
 slice-write-buffer-3 : tie.Need-slice-write-buffer-3 Inv-loop μ-loop
@@ -93,9 +93,9 @@ put-line-spec =
     μ-loop
     loop-holds
     shared-slice-read-byte
-    digit-requires
+    high-digit-requires
     slice-write-buffer
-    digit-requires-2
+    low-digit-requires
     add-buffer
     slice-write-buffer-2
     add-to

@@ -1,0 +1,110 @@
+-- A part of a line, bytes with no newline among them: where it ends, and what it does to a console. Assumes nothing.
+use Prim.Native.Nat.{ℕ, zero, suc, _+_, _-_, _≤_, _<_}
+use mathlib.Core.Path.{_≡_, refl, sym, ap, ap₂, _∙_}
+use mathlib.Core.Bool.{Bool, false, _||_, _&&_, or-false, or-assoc}
+use mathlib.Core.Logic.{⊎-elim}
+use mathlib.Core.List.{List, [], _∷_, _++_, append-assoc}
+use native.Mathlib.Nat.{suc-add}
+use native.Mathlib.Numerals.{add-one}
+use native.Mathlib.Omega.{arith}
+use borrow.Author.Tests.{lt-ltb, le-ltb, ltb-false}
+use lib.Dec.{eqb, ltb}
+use lib.ListN.{length, take, drop, getD, set, length-drop, take-append-drop}
+use lib.Seq.{take-suc, take-add, take-all, length-take-le}
+use Rattle.laws.proofs.Bools.{either, or-neither}
+use Rattle.console.specs.declared.Console.{Console}
+use Rattle.console.specs.Room.{ANSWER}
+use Rattle.console.specs.Text.{NEWLINE}
+use Rattle.console.specs.Lines.{hasNewline}
+use Rattle.console.specs.State.{HELD, heldOf, steppedOf, stepText, consoleAfter, textAfter}
+use Rattle.console.specs.Feed.{takes}
+use Rattle.console.proofs.StandLaws.{step-other}
+
+-- ---- newlines
+
+has-append : (xs ys : List ℕ) → hasNewline (xs ++ ys) ≡ (hasNewline xs || hasNewline ys)
+has-append [] ys = refl
+has-append (x ∷ xs) ys = ap (λ (b : Bool). eqb x NEWLINE || b) (has-append xs ys) ∙ sym (or-assoc (eqb x NEWLINE) (hasNewline xs) (hasNewline ys))
+
+-- one is among the first i bytes, or is the next
+pub has-more : (l : List ℕ) (i : ℕ) → i < length l → (hasNewline (take i l) || eqb (getD l i 0) NEWLINE) ≡ hasNewline (take (i + 1) l)
+has-more l i h =
+    let next : take (i + 1) l ≡ take i l ++ getD l i 0 ∷ [] = rw add-one (take-suc l i 0 h) in
+    sym (ap hasNewline next ∙ has-append (take i l) (getD l i 0 ∷ []) ∙ ap (λ (b : Bool). hasNewline (take i l) || b) (or-false (eqb (getD l i 0) NEWLINE)))
+
+-- none is among the first i, and none among the next n
+pub clear-more : (l : List ℕ) (i n : ℕ) → hasNewline (take i l) ≡ false → hasNewline (take n (drop i l)) ≡ false → hasNewline (take (i + n) l) ≡ false
+clear-more l i n h k = ap hasNewline (take-add i n l) ∙ has-append (take i l) (take n (drop i l)) ∙ ap₂ (λ (a b : Bool). a || b) h k
+
+clear-at : (l : List ℕ) (k : ℕ) → hasNewline l ≡ false → k < length l → eqb (getD l k 0) NEWLINE ≡ false
+clear-at [] k e h = absurd (omega arith)
+clear-at (x ∷ l) zero e h = or-neither (eqb x NEWLINE) (hasNewline l) e .0
+clear-at (x ∷ l) (suc k) e h = clear-at l k (or-neither (eqb x NEWLINE) (hasNewline l) e .1) (omega arith)
+
+clear-drop : (l : List ℕ) (k : ℕ) → hasNewline l ≡ false → hasNewline (drop k l) ≡ false
+clear-drop l k e = or-neither (hasNewline (take k l)) (hasNewline (drop k l)) (sym (has-append (take k l) (drop k l)) ∙ ap hasNewline (take-append-drop k l) ∙ e) .1
+
+-- ---- bytes one after the other
+
+pub part-length : (l : List ℕ) (i n : ℕ) → i + n ≤ length l → length (take n (drop i l)) ≡ n
+part-length l i n h = length-take-le n (drop i l) (simp length-drop (omega arith))
+
+pub console-append : (c : Console) (xs ys : List ℕ) → consoleAfter c (xs ++ ys) ≡ consoleAfter (consoleAfter c xs) ys
+console-append c [] ys = refl
+console-append c (x ∷ xs) ys = console-append (steppedOf c x) xs ys
+
+pub text-append : (c : Console) (xs ys : List ℕ) → textAfter c (xs ++ ys) ≡ textAfter c xs ++ textAfter (consoleAfter c xs) ys
+text-append c [] ys = refl
+text-append c (x ∷ xs) ys =
+    ap (λ (t : List ℕ). stepText c x ++ t) (text-append (steppedOf c x) xs ys)
+    ∙ sym (append-assoc (stepText c x) (textAfter (steppedOf c x) xs) (textAfter (consoleAfter (steppedOf c x) xs) ys))
+
+-- ---- what a part does: nothing is written, and it is held as far as there is room
+
+pub part-text : (c : Console) (xs : List ℕ) → hasNewline xs ≡ false → textAfter c xs ≡ []
+part-text c [] h = refl
+part-text c (x ∷ xs) h =
+    let both = or-neither (eqb x NEWLINE) (hasNewline xs) h in
+    rw (step-other c x (both .0) .1) (part-text (steppedOf c x) xs (both .1))
+
+pub part-takes : (c : Console) (xs ys : List ℕ) (room : ℕ) → hasNewline xs ≡ false → ANSWER ≤ room
+    → takes c (xs ++ ys) room ≡ length xs + takes (consoleAfter c xs) ys room
+unfolding takes
+part-takes c [] ys room h k = omega arith
+part-takes c (x ∷ xs) ys room h k =
+    let both = or-neither (eqb x NEWLINE) (hasNewline xs) h in
+    let same : room - 0 ≡ room = omega arith in
+    rw (le-ltb room ANSWER k, step-other c x (both .0) .1, same) (ap suc (part-takes (steppedOf c x) xs ys room (both .1) k) ∙ sym (suc-add (length xs) (takes (consoleAfter (steppedOf c x) xs) ys room)))
+
+full : (c : Console) (xs : List ℕ) → hasNewline xs ≡ false → HELD ≤ c .held → consoleAfter c xs ≡ c
+full c [] h k = refl
+full c (x ∷ xs) h k =
+    let both = or-neither (eqb x NEWLINE) (hasNewline xs) h in
+    let same : steppedOf c x ≡ c = step-other c x (both .0) .0 ∙ rw (le-ltb (c .held) HELD k) in
+    ap (λ (d : Console). consoleAfter d xs) same ∙ full c xs (both .1) k
+
+module _ (c₀ : Console) (part : List ℕ) (clear : hasNewline part ≡ false) where
+  pub part-more : (c : Console) (i : ℕ) → c ≡ consoleAfter c₀ (take i part) → i < length part → c .held < HELD
+      → record { unit = c .unit; held = c .held + 1; bytes = set (c .bytes) (c .held) (getD part i 0) } ≡ consoleAfter c₀ (take (i + 1) part)
+  part-more c i e h k =
+      let x = getD part i 0 in
+      let next : take (i + 1) part ≡ take i part ++ x ∷ [] = rw add-one (take-suc part i 0 h) in
+      let one : heldOf c x ≡ consoleAfter c₀ (take (i + 1) part) =
+      sym (step-other c x (clear-at part i clear h) .0)
+      ∙ ap (λ (d : Console). steppedOf d x) e
+      ∙ sym (console-append c₀ (take i part) (x ∷ []))
+      ∙ ap (consoleAfter c₀) (sym next) in
+      rw (lt-ltb (c .held) HELD k) at one
+
+  -- all is held, or there is no more room
+  pub part-end : (c : Console) (i : ℕ) → c ≡ consoleAfter c₀ (take i part) → (ltb i (length part) && ltb (c .held) HELD) ≡ false → c ≡ consoleAfter c₀ part
+  part-end c i e s =
+      ⊎-elim
+      (λ t.
+      let no = ltb-false (c .held) HELD (rw t at s) in
+      sym (full c (drop i part) (clear-drop part i clear) no)
+      ∙ ap (λ (d : Console). consoleAfter d (drop i part)) e
+      ∙ sym (console-append c₀ (take i part) (drop i part))
+      ∙ ap (consoleAfter c₀) (take-append-drop i part))
+      (λ t. e ∙ ap (consoleAfter c₀) (take-all i part (ltb-false i (length part) t)))
+      (either (ltb i (length part)))
