@@ -5,6 +5,7 @@
 //! all runs. `fast` keeps a state and moves it. The two must always answer alike.
 
 pub mod charts;
+pub mod damage;
 pub mod difference;
 pub mod draft;
 pub mod fast;

@@ -84,29 +84,23 @@ fn main() -> io::Result<()> {
     let [theirs, ours] = [contestants[0].output(&input)?, contestants[1].output(&input)?];
     assert!(theirs == ours, "the outputs differ");
 
-    let best = time_in_turn(&contestants, &input, rounds)?;
+    print_speeds(&contestants, &input, line_count, rounds)?;
+    print_instructions(&contestants, &folder)
+}
+
+fn print_speeds(
+    both: &[Contestant; 2],
+    input: &Path,
+    line_count: usize,
+    rounds: usize,
+) -> io::Result<()> {
+    let best = time_in_turn(both, input, rounds)?;
     let speed = best.map(|time| line_count as f64 / time.as_secs_f64());
-    for (contestant, (time, speed)) in contestants.iter().zip(best.iter().zip(speed)) {
-        println!(
-            "{:12} {:7.1} ms, {speed:10.0} lines a second",
-            contestant.name,
-            time.as_secs_f64() * 1e3
-        );
+    for (contestant, (time, speed)) in both.iter().zip(best.iter().zip(speed)) {
+        let milliseconds = time.as_secs_f64() * 1e3;
+        println!("{:12} {milliseconds:7.1} ms, {speed:10.0} lines a second", contestant.name);
     }
     println!("ratio        {:.2} (above 1 the program is faster)", speed[0] / speed[1]);
-
-    let (short, longer) = (write_input(&folder, 10_000)?, write_input(&folder, 110_000)?);
-    for contestant in &contestants {
-        match contestant.instructions_per_line(&short, &longer, 100_000) {
-            Some(count) => println!("{:12} {count:7.1} instructions a line", contestant.name),
-            None => {
-                println!(
-                    "{:12} instructions not counted: no valgrind, or it does not run there",
-                    contestant.name
-                )
-            }
-        }
-    }
     Ok(())
 }
 
@@ -120,4 +114,16 @@ fn time_in_turn(both: &[Contestant; 2], input: &Path, rounds: usize) -> io::Resu
         eprintln!("round {round} of {rounds}: best {program:.1} ms and {peer:.1} ms");
     }
     Ok(best)
+}
+
+fn print_instructions(both: &[Contestant; 2], folder: &Path) -> io::Result<()> {
+    let (short, longer) = (write_input(folder, 10_000)?, write_input(folder, 110_000)?);
+    for contestant in both {
+        let said = match contestant.instructions_per_line(&short, &longer, 100_000) {
+            Some(count) => format!("{count:7.1} instructions a line"),
+            None => "instructions not counted: no valgrind, or it does not run there".into(),
+        };
+        println!("{:12} {said}", contestant.name);
+    }
+    Ok(())
 }

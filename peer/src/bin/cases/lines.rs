@@ -71,55 +71,56 @@ fn digits(rows: &mut Rows) {
         text
     };
     rows.text("uppercase digit: C for c in the year", 2, with(5, b'C'));
-    let upper = FIELDS.text().to_ascii_uppercase();
-    rows.text("all digits in uppercase", 2, upper);
-    rows.text("'/', the byte before '0'", 2, with(67, b'/'));
-    rows.text("'0', the first digit, in the same place", 0, with(67, b'0'));
-    rows.text("':', the byte after '9', first in the line", 2, with(0, b':'));
-    rows.text("'`', the byte before 'a'", 2, with(36, b'`'));
-    rows.text("'a' in the same place", 0, with(36, b'a'));
-    rows.text("'g', the byte after 'f'", 2, with(37, b'g'));
-    rows.text("'f' in the same place", 0, with(37, b'f'));
-    rows.text("'@', the byte before 'A'", 2, with(20, b'@'));
-    rows.text("a space", 2, with(33, b' '));
-    rows.text("byte 00", 2, with(12, 0x00));
-    rows.text("byte ff", 2, with(13, 0xff));
-    rows.text("byte b0, '0' with bit 7 set", 2, with(14, 0xb0));
+    rows.text("all digits in uppercase", 2, FIELDS.text().to_ascii_uppercase());
+    for (shows, refusal, at, byte) in [
+        ("'/', the byte before '0'", 2, 67, b'/'),
+        ("'0', the first digit, in the same place", 0, 67, b'0'),
+        ("':', the byte after '9', first in the line", 2, 0, b':'),
+        ("'`', the byte before 'a'", 2, 36, b'`'),
+        ("'a' in the same place", 0, 36, b'a'),
+        ("'g', the byte after 'f'", 2, 37, b'g'),
+        ("'f' in the same place", 0, 37, b'f'),
+        ("'@', the byte before 'A'", 2, 20, b'@'),
+        ("a space", 2, 33, b' '),
+        ("byte 00", 2, 12, 0x00),
+        ("byte ff", 2, 13, 0xff),
+        ("byte b0, '0' with bit 7 set", 2, 14, 0xb0),
+    ] {
+        rows.text(shows, refusal, with(at, byte));
+    }
 }
 
 fn kind_and_date(rows: &mut Rows) {
-    rows.line("kind 00", 3, |fields| fields.kind = 0);
-    rows.line("kind 01", 0, |fields| fields.kind = 1);
-    rows.line("kind 03", 3, |fields| fields.kind = 3);
-    rows.line("kind 81", 3, |fields| fields.kind = 0x81);
-    rows.line("year 1999", 4, |fields| fields.year = 1999);
-    rows.line("year 2000", 0, |fields| fields.year = 2000);
-    rows.line("year 2099", 0, |fields| fields.year = 2099);
-    rows.line("year 2100", 4, |fields| fields.year = 2100);
-    rows.line("month 0", 4, |fields| fields.month = 0);
-    rows.line("month 1", 0, |fields| fields.month = 1);
-    rows.line("month 12", 0, |fields| fields.month = 12);
-    rows.line("month 13", 4, |fields| fields.month = 13);
+    for (kind, refusal) in [(0x00, 3), (0x01, 0), (0x03, 3), (0x81, 3)] {
+        rows.line(&format!("kind {kind:02x}"), refusal, |fields| fields.kind = kind);
+    }
+    for (year, refusal) in [(1999, 4), (2000, 0), (2099, 0), (2100, 4)] {
+        rows.line(&format!("year {year}"), refusal, |fields| fields.year = year);
+    }
+    for (month, refusal) in [(0, 4), (1, 0), (12, 0), (13, 4)] {
+        rows.line(&format!("month {month}"), refusal, |fields| fields.month = month);
+    }
     rows.line("days 255: reading alone does not mind", 0, |fields| fields.days = 255);
 }
 
 fn products(rows: &mut Rows) {
-    let product = |rows: &mut Rows, shows: &str, refusal, byte| {
-        rows.line(shows, refusal, |fields| fields.product = byte)
-    };
-    product(rows, "class 0, cured pork and canned ham", 0, 0x00);
-    product(rows, "class 1, ground beef", 0, 0x01);
-    product(rows, "class 3, poultry", 0, 0x03);
-    product(rows, "bit 7 with class 0", 5, 0x80);
-    product(rows, "bit 7 with class 1", 5, 0x81);
-    product(rows, "bit 7 with class 2, dry salami or pepperoni", 0, 0x82);
-    product(rows, "bit 7 with class 3", 5, 0x83);
-    product(rows, "bit 2", 5, 0x06);
-    product(rows, "bit 3", 5, 0x0a);
-    product(rows, "bit 4", 5, 0x12);
-    product(rows, "bit 5", 5, 0x22);
-    product(rows, "bit 6", 5, 0x42);
-    product(rows, "bits 7 and 6 with class 2", 5, 0xc2);
+    for (shows, refusal, product) in [
+        ("class 0, cured pork and canned ham", 0, 0x00),
+        ("class 1, ground beef", 0, 0x01),
+        ("class 3, poultry", 0, 0x03),
+        ("bit 7 with class 0", 5, 0x80),
+        ("bit 7 with class 1", 5, 0x81),
+        ("bit 7 with class 2, dry salami or pepperoni", 0, 0x82),
+        ("bit 7 with class 3", 5, 0x83),
+        ("bit 2", 5, 0x06),
+        ("bit 3", 5, 0x0a),
+        ("bit 4", 5, 0x12),
+        ("bit 5", 5, 0x22),
+        ("bit 6", 5, 0x42),
+        ("bits 7 and 6 with class 2", 5, 0xc2),
+    ] {
+        rows.line(shows, refusal, |fields| fields.product = product);
+    }
 }
 
 fn means(rows: &mut Rows) {
@@ -129,17 +130,21 @@ fn means(rows: &mut Rows) {
         rows.mean(&format!("{name} mean 10000"), 0, 2, analyte, 10_000);
         rows.mean(&format!("{name} mean 10001"), 6, 2, analyte, 10_001);
     }
-    rows.mean("moisture mean 0", 0, 2, MOISTURE, 0);
-    rows.mean("salt mean 0", 0, 2, SALT, 0);
-    rows.mean("protein mean 4", 6, 2, PROTEIN, 4);
-    rows.mean("protein mean 5", 0, 2, PROTEIN, 5);
-    rows.mean("fat mean 0", 6, 2, FAT, 0);
-    rows.mean("fat mean 1", 0, 2, FAT, 1);
-    rows.mean("fat mean 1249 of ground beef", 6, 1, FAT, 1249);
-    rows.mean("fat mean 1250 of ground beef", 0, 1, FAT, 1250);
-    rows.mean("fat mean 1249 of cured pork", 0, 0, FAT, 1249);
-    rows.mean("fat mean 1249 of poultry", 0, 3, FAT, 1249);
-    rows.mean("salt mean 65535", 6, 2, SALT, u16::MAX);
+    for (shows, refusal, product, analyte, mean) in [
+        ("moisture mean 0", 0, 2, MOISTURE, 0),
+        ("salt mean 0", 0, 2, SALT, 0),
+        ("protein mean 4", 6, 2, PROTEIN, 4),
+        ("protein mean 5", 0, 2, PROTEIN, 5),
+        ("fat mean 0", 6, 2, FAT, 0),
+        ("fat mean 1", 0, 2, FAT, 1),
+        ("fat mean 1249 of ground beef", 6, 1, FAT, 1249),
+        ("fat mean 1250 of ground beef", 0, 1, FAT, 1250),
+        ("fat mean 1249 of cured pork", 0, 0, FAT, 1249),
+        ("fat mean 1249 of poultry", 0, 3, FAT, 1249),
+        ("salt mean 65535", 6, 2, SALT, u16::MAX),
+    ] {
+        rows.mean(shows, refusal, product, analyte, mean);
+    }
 }
 
 fn tags(rows: &mut Rows) {
@@ -155,27 +160,31 @@ fn tags(rows: &mut Rows) {
 }
 
 fn percents(rows: &mut Rows) {
-    rows.reading("percent 0", 0, 0, 0);
-    rows.reading("the smallest subnormal", 0, 0, 0x0000_0001);
-    rows.reading("the largest subnormal", 0, 0, 0x007f_ffff);
-    rows.reading("the smallest normal", 0, 0, 0x0080_0000);
-    rows.reading("a tiny percent, 2^-64", 0, 0, 0x1f80_0000);
-    rows.reading("just below .005, to 0 hundredths", 0, 0, 0x3ba3_d70a);
-    rows.reading("just above .005, to 1 hundredth", 0, 0, 0x3ba3_d70b);
-    rows.reading("halfway, 0.125: 12.5 hundredths", 0, 0, 0x3e00_0000);
-    rows.reading("the percent before 0.125", 0, 0, 0x3dff_ffff);
-    rows.reading("halfway, 60.125", 0, 0, halves(6012));
-    rows.reading("100.0", 0, 0, 0x42c8_0000);
-    rows.reading("the percent before 100.0", 0, 0, 0x42c7_ffff);
-    rows.reading("the percent after 100.0", 7, 0, 0x42c8_0001);
-    rows.reading("infinity", 7, 0, 0x7f80_0000);
-    rows.reading("a NaN", 7, 0, 0x7fc0_0000);
-    rows.reading("a signalling NaN", 7, 0, 0x7f80_0001);
-    rows.reading("minus zero", 7, 0, 0x8000_0000);
-    rows.reading("minus the smallest subnormal", 7, 0, 0x8000_0001);
-    rows.reading("minus 60.0", 7, 0, 0xc270_0000);
-    rows.reading("minus infinity", 7, 0, 0xff80_0000);
-    rows.reading("all bits set", 7, 0, 0xffff_ffff);
+    for (shows, refusal, bits) in [
+        ("percent 0", 0, 0),
+        ("the smallest subnormal", 0, 0x0000_0001),
+        ("the largest subnormal", 0, 0x007f_ffff),
+        ("the smallest normal", 0, 0x0080_0000),
+        ("a tiny percent, 2^-64", 0, 0x1f80_0000),
+        ("just below .005, to 0 hundredths", 0, 0x3ba3_d70a),
+        ("just above .005, to 1 hundredth", 0, 0x3ba3_d70b),
+        ("halfway, 0.125: 12.5 hundredths", 0, 0x3e00_0000),
+        ("the percent before 0.125", 0, 0x3dff_ffff),
+        ("halfway, 60.125", 0, halves(6012)),
+        ("100.0", 0, 0x42c8_0000),
+        ("the percent before 100.0", 0, 0x42c7_ffff),
+        ("the percent after 100.0", 7, 0x42c8_0001),
+        ("infinity", 7, 0x7f80_0000),
+        ("a NaN", 7, 0x7fc0_0000),
+        ("a signalling NaN", 7, 0x7f80_0001),
+        ("minus zero", 7, 0x8000_0000),
+        ("minus the smallest subnormal", 7, 0x8000_0001),
+        ("minus 60.0", 7, 0xc270_0000),
+        ("minus infinity", 7, 0xff80_0000),
+        ("all bits set", 7, 0xffff_ffff),
+    ] {
+        rows.reading(shows, refusal, 0, bits);
+    }
     for (name, analyte) in [("protein", PROTEIN), ("fat", FAT), ("salt", SALT)] {
         let shows = format!("the percent after 100.0 on {name}");
         rows.line(&shows, 7, |fields| fields.readings[analyte] = (0, 0x42c8_0001));

@@ -74,7 +74,7 @@ fn standard_files(rows: &[standard::Row]) -> [File; 2] {
     let (mut input, mut output) = (String::new(), String::new());
     for row in rows {
         let answer = standardize(row.text.as_bytes());
-        assert!(row.answer.is_none_or(|known| known == answer), "{}: {answer}", row.shows);
+        assert!([standard::UNSAID, &answer].contains(&row.answer), "{}: {answer}", row.shows);
         input += &format!("{}\n", row.text);
         output += &format!("{answer}\n");
     }
