@@ -14,6 +14,7 @@ use Rattle.unit.specs.Status.{statusOf}
 use Rattle.unit.specs.declared.Taken.{Taken}
 use Rattle.unit.specs.declared.Unit as U
 use Rattle.unit.specs.declared.report.Report.{Report}
+use Rattle.unit.proofs.Reach.{after-append}
 use Rattle.console.specs.declared.Console.{Console}
 use Rattle.console.specs.Text.{NEWLINE, answerText, statusText}
 use Rattle.console.specs.Lines.{ended, rest, lastLine, linesOf}
@@ -25,7 +26,7 @@ use Rattle.console.specs.Stands.{Stands}
 use Rattle.console.specs.Feed.{takes, fedOf, fedBuffer}
 use Rattle.console.specs.Finish.{lastUnit, lastText, finalText, finishedOf, finishedBuffer}
 use Rattle.console.proofs.BufferLaws.{over-length, over-over, over-front}
-use Rattle.console.proofs.LineLaws.{after-append, answers-append, taken-cut}
+use Rattle.console.proofs.LineLaws.{answers-append, taken-cut}
 use Rattle.console.proofs.StandLaws.{step-newline}
 use Rattle.console.proofs.FeedLaws.{answer-length}
 use Rattle.console.proofs.StatusLaws.{status-length}

@@ -71,10 +71,6 @@ rest-other p (y ∷ xs) x e = go (rest-other [] xs x e) (rest-other (p ++ y ∷ 
 
 -- ---- lines one after the other
 
-pub after-append : (u : U.Unit) (ls ms : List (List ℕ)) → after u (ls ++ ms) ≡ after (after u ls) ms
-after-append u [] ms = refl
-after-append u (l ∷ ls) ms = after-append (takenOf u l .unit) ls ms
-
 pub answers-append : (u : U.Unit) (ls ms : List (List ℕ)) → answers u (ls ++ ms) ≡ answers u ls ++ answers (after u ls) ms
 answers-append u [] ms = refl
 answers-append u (l ∷ ls) ms =

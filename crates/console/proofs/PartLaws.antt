@@ -12,6 +12,7 @@ use lib.Dec.{eqb, ltb}
 use lib.ListN.{length, take, drop, getD, set, length-drop, take-append-drop}
 use lib.Seq.{take-suc, take-add, take-all, length-take-le}
 use Rattle.laws.proofs.Bools.{either, or-neither}
+use Rattle.laws.proofs.Gathered.{joined, with-the-next, each}
 use Rattle.console.specs.declared.Console.{Console}
 use Rattle.console.specs.Room.{ANSWER}
 use Rattle.console.specs.Text.{NEWLINE}
@@ -22,24 +23,22 @@ use Rattle.console.proofs.StandLaws.{step-other}
 
 -- ---- newlines
 
+abbrev isNewline : ℕ → Bool
+isNewline x = eqb x NEWLINE
+
 has-append : (xs ys : List ℕ) → hasNewline (xs ++ ys) ≡ (hasNewline xs || hasNewline ys)
-has-append [] ys = refl
-has-append (x ∷ xs) ys = ap (λ (b : Bool). eqb x NEWLINE || b) (has-append xs ys) ∙ sym (or-assoc (eqb x NEWLINE) (hasNewline xs) (hasNewline ys))
+has-append = joined _||_ false (λ b. refl) or-false or-assoc isNewline hasNewline refl (λ x l. refl)
 
 -- one is among the first i bytes, or is the next
 pub has-more : (l : List ℕ) (i : ℕ) → i < length l → (hasNewline (take i l) || eqb (getD l i 0) NEWLINE) ≡ hasNewline (take (i + 1) l)
-has-more l i h =
-    let next : take (i + 1) l ≡ take i l ++ getD l i 0 ∷ [] = rw add-one (take-suc l i 0 h) in
-    sym (ap hasNewline next ∙ has-append (take i l) (getD l i 0 ∷ []) ∙ ap (λ (b : Bool). hasNewline (take i l) || b) (or-false (eqb (getD l i 0) NEWLINE)))
+has-more = with-the-next _||_ false (λ b. refl) or-false or-assoc isNewline hasNewline refl (λ x l. refl) 0
 
 -- none is among the first i, and none among the next n
 pub clear-more : (l : List ℕ) (i n : ℕ) → hasNewline (take i l) ≡ false → hasNewline (take n (drop i l)) ≡ false → hasNewline (take (i + n) l) ≡ false
 clear-more l i n h k = ap hasNewline (take-add i n l) ∙ has-append (take i l) (take n (drop i l)) ∙ ap₂ (λ (a b : Bool). a || b) h k
 
 clear-at : (l : List ℕ) (k : ℕ) → hasNewline l ≡ false → k < length l → eqb (getD l k 0) NEWLINE ≡ false
-clear-at [] k e h = absurd (omega arith)
-clear-at (x ∷ l) zero e h = or-neither (eqb x NEWLINE) (hasNewline l) e .0
-clear-at (x ∷ l) (suc k) e h = clear-at l k (or-neither (eqb x NEWLINE) (hasNewline l) e .1) (omega arith)
+clear-at = each _||_ false (λ b. refl) or-false or-assoc isNewline hasNewline refl (λ x l. refl) or-neither 0
 
 clear-drop : (l : List ℕ) (k : ℕ) → hasNewline l ≡ false → hasNewline (drop k l) ≡ false
 clear-drop l k e = or-neither (hasNewline (take k l)) (hasNewline (drop k l)) (sym (has-append (take k l) (drop k l)) ∙ ap hasNewline (take-append-drop k l) ∙ e) .1

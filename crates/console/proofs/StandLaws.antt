@@ -14,13 +14,14 @@ use lib.Seq.{take-all, take-suc-set, take-append-le, length-take-le, append-snoc
 use Rattle.laws.proofs.Bools.{either}
 use Rattle.unit.specs.Take.{newUnit, takenOf}
 use Rattle.unit.specs.Reached.{after, Reached as ReachedUnit}
+use Rattle.unit.proofs.Reach.{after-append}
 use Rattle.console.specs.declared.Console.{Console}
 use Rattle.console.specs.Text.{NEWLINE, answerText}
 use Rattle.console.specs.Lines.{ended, rest}
 use Rattle.console.specs.Transcript.{textOf}
 use Rattle.console.specs.State.{HELD, pending, heldOf, endedOf, steppedOf, stepText, consoleAfter, textAfter}
 use Rattle.console.specs.Stands.{Stands, Reached}
-use Rattle.console.proofs.LineLaws.{ended-newline, rest-newline, ended-other, rest-other, after-append, answers-append, taken-cut}
+use Rattle.console.proofs.LineLaws.{ended-newline, rest-newline, ended-other, rest-other, answers-append, taken-cut}
 
 pub reached : (c : Console) → Reached c → ReachedUnit (c .unit)
 reached c m = (ended (m .0), sym (m .1 .unit))

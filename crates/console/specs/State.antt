@@ -1,16 +1,17 @@
 -- What the console holds, and what a byte of the input does to it. What all of it comes to is `transcript`.
-use Prim.Native.Nat.{ℕ, _+_}
+use Prim.Native.Nat.{ℕ, suc, _+_}
 use mathlib.Core.Bool.{cond}
 use mathlib.Core.List.{List, [], _∷_, _++_}
 use lib.Dec.{ltb, eqb}
 use lib.ListN.{take, set, replicate}
+use Rattle.line.specs.Digits.{lineLength}
 use Rattle.unit.specs.Take.{newUnit, takenOf}
 use Rattle.console.specs.Text.{NEWLINE, answerText}
 use Rattle.console.specs.declared.Console.{Console}
 
--- how many bytes of a line are held
+-- how many bytes of a line are held: one more than a line has
 abbrev pub HELD : ℕ
-HELD = 69
+HELD = suc lineLength
 
 abbrev pub newConsole : Console
 newConsole = record { unit = newUnit; held = 0; bytes = replicate HELD 0 }

@@ -7,6 +7,7 @@ mod text;
 
 use answer::ANSWER;
 use answer::put_answer;
+use line::DIGITS;
 use newline::line_end;
 use report::STATUS;
 use report::put_status;
@@ -31,7 +32,7 @@ ghost use Rattle.console.specs.Finish.{lastUnit, lastText, finishedOf, f
 
 // How many bytes of a line not yet ended are held. A line that has come to so many can only be
 // refused for its length, however long it grows.
-const HELD: usize = 69;
+const HELD: usize = DIGITS + 1;
 
 // How many bytes the end has at most: the unended line's answer, and the status.
 pub const LAST: usize = ANSWER + STATUS;

@@ -1,6 +1,6 @@
 -- The chart law. A stretch grows at its end, and each sample keeps the run shown the best (`Best`); what the law says of earlier samples is the
 -- same law of the stretch up to there.
-use mathlib.Core.Path.{_≡_, ap, sym, _∙_, subst}
+use mathlib.Core.Path.{_≡_, refl, ap, sym, _∙_, subst}
 use mathlib.Core.Bool.{true, false}
 use mathlib.Core.List.{List, [], _∷_, _++_}
 use Prim.Native.Nat.{ℕ, suc, _+_, _-_, _≤_, _<_}
@@ -14,6 +14,7 @@ use lib.Seq.{take-length, drop-length, drop-append-le, length-take-le}
 use lib.IntN.{ℤ, pos, _+ℤ_, +ℤ-idl, +ℤ-idr, +ℤ-assoc}
 use lib.Signed.{_≤ℤ_, _<ℤ_}
 use Rattle.laws.proofs.Order.{zarith}
+use Rattle.laws.proofs.Gathered.{with-one-more}
 use Rattle.laws.proofs.Lists.{by-growth}
 use Rattle.grounds.specs.Chart.{nextValue, nextFirst, over}
 use Rattle.grounds.specs.Run.{valueFrom, firstFrom, valueAfter, firstAfter, Run, total, runSum, Above}
@@ -40,8 +41,7 @@ pub first-more : (xs : List ℤ) (x : ℤ) → firstAfter (xs ++ x ∷ []) ≡ n
 first-more xs x = rw zero-add at (first-from-more 0 (pos 0) 0 xs x)
 
 total-more : (xs : List ℤ) (x : ℤ) → total (xs ++ x ∷ []) ≡ total xs +ℤ x
-total-more [] x = +ℤ-idr x ∙ sym (+ℤ-idl x)
-total-more (y ∷ xs) x = ap (λ (z : ℤ). y +ℤ z) (total-more xs x) ∙ sym (+ℤ-assoc y (total xs) x)
+total-more = with-one-more _+ℤ_ (pos 0) +ℤ-idl +ℤ-idr +ℤ-assoc (λ (x : ℤ). x) total refl (λ x xs. refl)
 
 -- ---- the runs that end at the last sample
 

@@ -7,3 +7,4 @@ pub mod Cond
 pub mod Order
 pub mod Word
 pub mod Lists
+pub mod Gathered

@@ -2,36 +2,28 @@
 use Prim.Native.Nat.{ℕ, zero, suc, _+_, _*_, _/_, _%_, _<_}
 use mathlib.Core.Path.{_≡_, refl, sym, ap, _∙_}
 use mathlib.Core.Bool.{Bool, true, _&&_, and-true, and-assoc}
-use mathlib.Core.List.{List, [], _∷_, _++_, map, append-assoc}
+use mathlib.Core.List.{List, [], _∷_, _++_, map, append-nil, append-assoc}
 use native.Mathlib.Numerals.{add-one}
 use native.Mathlib.Omega.{arith}
 use lib.ListN.{length, getD, set, take, drop, length-append, length-map}
 use lib.Seq.{take-suc, drop-cons, append-snoc, set-at, length-take-le, ext-getD, getD-set-same, getD-set-other}
 use borrow.Author.Count.{below-more}
 use Rattle.laws.proofs.Bools.{and-both}
+use Rattle.laws.proofs.Gathered.{joined, with-the-next, each}
 use Rattle.line.specs.Digits.{isDigit, digitValue, digitOf, areDigits, bytesOf, digitsOf}
 use Rattle.line.proofs.DigitLaws.{value-lt, of-value, value-of, of-digit}
 
 -- ---- the digits of a line in turn
 
-are-append : (xs ys : List ℕ) → areDigits (xs ++ ys) ≡ (areDigits xs && areDigits ys)
-unfolding areDigits
-are-append [] ys = refl
-are-append (c ∷ xs) ys = ap (λ (b : Bool). isDigit c && b) (are-append xs ys) ∙ sym (and-assoc (isDigit c) (areDigits xs) (areDigits ys))
-
 -- the first i are digits, and the next is one
 pub are-more : (l : List ℕ) (i : ℕ) → i < length l → (areDigits (take i l) && isDigit (getD l i 0)) ≡ areDigits (take (i + 1) l)
 unfolding areDigits
-are-more l i h =
-    let next : take (i + 1) l ≡ take i l ++ getD l i 0 ∷ [] = rw add-one (take-suc l i 0 h) in
-    sym (ap areDigits next ∙ are-append (take i l) (getD l i 0 ∷ []) ∙ ap (λ (b : Bool). areDigits (take i l) && b) (and-true (isDigit (getD l i 0))))
+are-more = with-the-next _&&_ true (λ b. refl) and-true and-assoc isDigit areDigits refl (λ c l. refl) 0
 
 -- each of them is one
 pub digit-at : (l : List ℕ) (k : ℕ) → areDigits l ≡ true → k < length l → isDigit (getD l k 0) ≡ true
 unfolding areDigits
-digit-at [] k e h = absurd (omega arith)
-digit-at (c ∷ l) zero e h = and-both (isDigit c) (areDigits l) e .0
-digit-at (c ∷ l) (suc k) e h = digit-at l k (and-both (isDigit c) (areDigits l) e .1) (omega arith)
+digit-at = each _&&_ true (λ b. refl) and-true and-assoc isDigit areDigits refl (λ c l. refl) and-both 0
 
 -- ---- what they stand for
 
@@ -102,8 +94,7 @@ length-digitsOf (b ∷ bs) = rw (length-digitsOf bs) (omega arith)
 
 pub digitsOf-append : (xs bs : List ℕ) → digitsOf (xs ++ bs) ≡ digitsOf xs ++ digitsOf bs
 unfolding digitsOf
-digitsOf-append [] bs = refl
-digitsOf-append (a ∷ xs) bs = rw (digitsOf-append xs bs)
+digitsOf-append = joined _++_ [] (λ l. refl) append-nil append-assoc (λ b. digitOf (b / 16) ∷ digitOf (b % 16) ∷ []) digitsOf refl (λ b bs. refl)
 
 pub digitsOf-are : (bs : List ℕ) → AreBytes bs → areDigits (digitsOf bs) ≡ true
 unfolding digitsOf areDigits

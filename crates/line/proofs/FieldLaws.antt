@@ -5,6 +5,7 @@ use mathlib.Core.List.{List, [], _∷_}
 use native.Mathlib.Omega.{arith}
 use lib.Dec.{lit<}
 use lib.ListN.{length, getD, set}
+use Rattle.line.specs.Digits.{lineBytes}
 use Rattle.line.specs.Fields.{one, two, tagged, bytes2, bytes4, bytes5, bytesIn, fieldsIn}
 use Rattle.line.specs.declared.fields.Fields.{Fields}
 use Rattle.line.specs.declared.fields.Tagged.{Tagged}
@@ -115,7 +116,7 @@ module _ (bs : List ℕ) (A : AreBytes bs) where
       ap (λ (l : List ℕ). getD bs i 0 ∷ l)
       (sym (split4 (getD bs (i + 1) 0) (getD bs (i + 1 + 1) 0) (getD bs (i + 1 + 2) 0) (getD bs (i + 1 + 2 + 1) 0) (byte-at bs A (i + 1 + 1)) (byte-at bs A (i + 1 + 2)) (byte-at bs A (i + 1 + 2 + 1))))
 
-  pub bytes-back : length bs ≡ 34 → bytesIn (fieldsIn bs) ≡ bs
+  pub bytes-back : length bs ≡ lineBytes → bytesIn (fieldsIn bs) ≡ bs
   bytes-back e =
       sym
       (tabulated bs

@@ -12,10 +12,10 @@ use lib.Seq.{take-at}
 use lib.Ieee.{binary32, fits, ofBits, toBits}
 use lib.Ieee.Bits.{ofBits-toBits, toBits-ofBits, toBits-lt, nanBits-is}
 use Rattle.laws.proofs.Bools.{either}
-use Rattle.line.specs.Digits.{areDigits, bytesOf, digitsOf}
+use Rattle.line.specs.Digits.{lineLength, lineBytes, areDigits, bytesOf, digitsOf}
 use Rattle.line.specs.Fields.{four, bytes2, bytes5, fieldsIn, bytesIn, readingOf, taggedOf, recordOf, fieldsOf}
 use Rattle.line.specs.Held.{HeldReading, Held}
-use Rattle.line.specs.Read.{lineLength, fieldsAt, lineRows, readBy, readOf}
+use Rattle.line.specs.Read.{fieldsAt, lineRows, readBy, readOf}
 use Rattle.line.specs.Refused.{firstRow, fieldRows, readingRow}
 use Rattle.line.specs.Write.{lineOf, writtenOf, bufferAfter}
 use Rattle.line.specs.declared.fields.Fields.{Fields}
@@ -116,8 +116,8 @@ fields-again line g =
 line-again : (line : List ℕ) → Good line → lineOf (recordOf (fieldsAt line)) ≡ line
 line-again line g =
     ap (λ (f : Fields). digitsOf (bytesIn f)) (fields-again line g)
-    ∙ ap digitsOf (bytes-back (bytesOf line) (bytesOf-are line (g .digits)) (length-bytesOf line 34 (g .long)))
-    ∙ digits-bytes line 34 (g .long) (g .digits)
+    ∙ ap digitsOf (bytes-back (bytesOf line) (bytesOf-are line (g .digits)) (length-bytesOf line lineBytes (g .long)))
+    ∙ digits-bytes line lineBytes (g .long) (g .digits)
 
 -- the line of the record that was read is the line
 pub line-back : (line : List ℕ) (r : Record) → readOf line ≡ Whole r → lineOf r ≡ line

@@ -9,9 +9,9 @@ use borrow.Author.Tests.{eq-eqb, ne-eqb}
 use lib.Dec.{T, ltb, leb, eqb, ltb→lt, leb→le}
 use lib.Ieee.Fits.{and-l, and-r}
 use lib.ListN.{length}
-use Rattle.line.specs.Digits.{areDigits}
+use Rattle.line.specs.Digits.{lineLength, areDigits}
 use Rattle.line.specs.Fields.{recordOf}
-use Rattle.line.specs.Read.{lineLength, fieldsAt, lineRows, readBy, readOf, Answered}
+use Rattle.line.specs.Read.{fieldsAt, lineRows, readBy, readOf, Answered}
 use Rattle.line.specs.Refused.{Row, firstRow, rowFits, fieldRows}
 use Rattle.line.specs.declared.record.Record.{Record}
 use Rattle.line.specs.declared.record.Read.{Read}

@@ -6,7 +6,7 @@ use native.Mathlib.Omega.{arith}
 use borrow.Author.Tests.{lt-ltb, le-ltb}
 use lib.ListN.{length, drop}
 use Rattle.line.specs.Fields.{fieldsOf}
-use Rattle.line.specs.Read.{lineLength}
+use Rattle.line.specs.Digits.{lineLength}
 use Rattle.line.specs.Refused.{firstRow, fieldRows, SHORT}
 use Rattle.line.specs.Write.{lineOf, writeRows, writtenBy, bufferBy, writtenOf, bufferAfter}
 use Rattle.line.specs.declared.record.Record.{Record}

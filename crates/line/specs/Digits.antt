@@ -6,6 +6,13 @@ use lib.Dec.{leb, ltb}
 use Rattle.line.specs.declared.digits.Hex.{Hex}
 use Rattle.line.specs.declared.digits.Hex.the-variants.{Value, Bad}
 
+-- a line is 68 digits, 34 bytes
+abbrev pub lineLength : ℕ
+lineLength = 68
+
+abbrev pub lineBytes : ℕ
+lineBytes = 34
+
 -- 0 to 9 or a to f: 48 is the number of the character 0, and 97 that of a
 unfoldable pub isDigit : ℕ → Bool
 isDigit c = (leb 48 c && leb c 57) || (leb 97 c && leb c 102)

@@ -5,17 +5,13 @@ use mathlib.Core.Bool.{Bool, true, false, not}
 use mathlib.Core.List.{List, [], _∷_}
 use lib.Dec.{eqb}
 use lib.ListN.{length}
-use Rattle.line.specs.Digits.{areDigits, bytesOf}
+use Rattle.line.specs.Digits.{lineLength, areDigits, bytesOf}
 use Rattle.line.specs.Fields.{fieldsIn, recordOf}
 use Rattle.line.specs.Refused.{Row, firstRow, rowFits, fieldRows, LENGTH, DIGIT}
 use Rattle.line.specs.declared.fields.Fields.{Fields}
 use Rattle.line.specs.declared.record.Record.{Record}
 use Rattle.line.specs.declared.record.Read.{Read}
 use Rattle.line.specs.declared.record.Read.the-variants.{Whole, Refused}
-
--- how many digits a line has
-abbrev pub lineLength : ℕ
-lineLength = 68
 
 -- the fields of a line
 abbrev pub fieldsAt : List ℕ → Fields

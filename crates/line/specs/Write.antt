@@ -3,9 +3,8 @@ use Prim.Native.Nat.{ℕ, zero, suc}
 use mathlib.Core.List.{List, [], _∷_, _++_}
 use lib.Dec.{ltb}
 use lib.ListN.{length, drop}
-use Rattle.line.specs.Digits.{digitsOf}
+use Rattle.line.specs.Digits.{lineLength, digitsOf}
 use Rattle.line.specs.Fields.{bytesIn, fieldsOf}
-use Rattle.line.specs.Read.{lineLength}
 use Rattle.line.specs.Refused.{Row, firstRow, fieldRows, SHORT}
 use Rattle.line.specs.declared.record.Record.{Record}
 use Rattle.line.specs.declared.record.Written.{Written}

@@ -5,7 +5,12 @@ ghost use mathlib.Core.Bool.{true};
 ghost use mathlib.Core.List.{_++_, map};
 ghost use Prim.Native.Nat.{_<_, _≤_, _/_, _%_};
 ghost use lib.ListN.{length, drop};
-ghost use Rattle.line.specs.Digits.{isDigit, digitValue, byteIn, digitOf, areDigits, bytesOf, digitsOf};
+ghost use Rattle.line.specs.Digits.{lineLength, isDigit, digitValue, byteIn, digitOf, areDigits, bytesOf, digitsOf};
+
+// How many digits a line has, and how many bytes they write.
+pub const DIGITS: usize = 68;
+
+pub const BYTES: usize = 34;
 
 // What two characters are: the byte that they write, or no two digits.
 pub enum Hex {
@@ -72,42 +77,42 @@ pub fn are_digits(line: &[u8]) -> bool
     good
 }
 
-// What each of 68 digits stands for.
-fn values_of(line: &[u8]) -> [u8; 68]
-    requires { ⌜ (length (now line) ≡ 68) × (areDigits (now line) ≡ true) ⌝ }
+// What each digit of a line stands for.
+fn values_of(line: &[u8]) -> [u8; DIGITS]
+    requires { ⌜ (length (now line) ≡ lineLength) × (areDigits (now line) ≡ true) ⌝ }
     ensures { λ r. ⌜ r ≡ map digitValue (now (line .entry)) ⌝ }
 {
-    let mut values = [0u8; 68];
+    let mut values = [0u8; DIGITS];
     let mut i = 0;
-    while i < 68 {
+    while i < DIGITS {
         values[i] = value_of(line[i]);
         i += 1;
     }
     values
 }
 
-// The bytes of a line of 68 digits.
-pub fn bytes_of(line: &[u8]) -> [u8; 34]
-    requires { ⌜ (length (now line) ≡ 68) × (areDigits (now line) ≡ true) ⌝ }
+// The bytes that the digits of a line write.
+pub fn bytes_of(line: &[u8]) -> [u8; BYTES]
+    requires { ⌜ (length (now line) ≡ lineLength) × (areDigits (now line) ≡ true) ⌝ }
     ensures { λ r. ⌜ r ≡ bytesOf (now (line .entry)) ⌝ }
 {
     let values = values_of(line);
-    let mut bytes = [0u8; 34];
+    let mut bytes = [0u8; BYTES];
     let mut i = 0;
-    while i < 34 {
+    while i < BYTES {
         bytes[i] = 16 * values[2 * i] + values[2 * i + 1];
         i += 1;
     }
     bytes
 }
 
-// The digits of 34 bytes, put at the start of a buffer.
-pub fn put(bytes: [u8; 34], buffer: &mut [u8])
-    requires { ⌜ 68 ≤ length (now buffer) ⌝ }
-    ensures { λ _. ⌜ now (buffer .exit) ≡ digitsOf bytes ++ drop 68 (now (buffer .entry)) ⌝ }
+// The digits of a line's bytes, put at the start of a buffer.
+pub fn put(bytes: [u8; BYTES], buffer: &mut [u8])
+    requires { ⌜ lineLength ≤ length (now buffer) ⌝ }
+    ensures { λ _. ⌜ now (buffer .exit) ≡ digitsOf bytes ++ drop lineLength (now (buffer .entry)) ⌝ }
 {
     let mut i = 0;
-    while i < 34 {
+    while i < BYTES {
         buffer[2 * i] = high_digit(bytes[i]);
         buffer[2 * i + 1] = low_digit(bytes[i]);
         i += 1;

@@ -1,6 +1,7 @@
 // The fields of a line as numbers, in the order of document 01's table: from and to 34 bytes, and
 // from and to a record.
 
+use crate::digits::BYTES;
 use crate::percent::bits_of;
 use crate::record::Means;
 use crate::record::Reading;
@@ -10,6 +11,7 @@ ghost use mathlib.Core.Path.{_≡_};
 ghost use mathlib.Core.Bool.{false};
 ghost use Prim.Native.Nat.{_<_, _+_, _*_, _/_, _%_};
 ghost use lib.ListN.{set};
+ghost use Rattle.line.specs.Digits.{lineBytes};
 ghost use Rattle.line.specs.Fields.{two, four, tagged, fieldsIn, bytesIn, readingOf, taggedOf, recordOf, fieldsOf};
 ghost use Rattle.line.specs.Held.{Held, HeldReading};
 ghost use Rattle.line.specs.Refused.{readingRow, firstRow, fieldRows};
@@ -55,8 +57,8 @@ fn low_byte(n: u32) -> u8
 }
 
 // Puts a number's two bytes at i.
-fn put2(mut b: [u8; 34], i: usize, n: u16) -> [u8; 34]
-    requires { ⌜ i + 1 < 34 ⌝ }
+fn put2(mut b: [u8; BYTES], i: usize, n: u16) -> [u8; BYTES]
+    requires { ⌜ i + 1 < lineBytes ⌝ }
     ensures { λ r. ⌜ r ≡ set (set b i (n / 256)) (i + 1) (n % 256) ⌝ }
 {
     b[i] = (n >> 8) as u8;
@@ -65,8 +67,8 @@ fn put2(mut b: [u8; 34], i: usize, n: u16) -> [u8; 34]
 }
 
 // Puts a tagged reading's five bytes at i.
-fn put5(mut b: [u8; 34], i: usize, t: Tagged) -> [u8; 34]
-    requires { ⌜ i + 4 < 34 ⌝ }
+fn put5(mut b: [u8; BYTES], i: usize, t: Tagged) -> [u8; BYTES]
+    requires { ⌜ i + 4 < lineBytes ⌝ }
     ensures { λ r. ⌜ r ≡ set (set (set (set (set b i (t .tag)) (i + 1) (t .bits / 16777216)) (i + 2) (t .bits / 65536 % 256)) (i + 3) (t .bits / 256 % 256)) (i + 4) (t .bits % 256) ⌝ }
 {
     let n = t.bits;
@@ -79,24 +81,24 @@ fn put5(mut b: [u8; 34], i: usize, t: Tagged) -> [u8; 34]
 }
 
 // The number that the two bytes from i on make.
-fn two_at(b: [u8; 34], i: usize) -> u16
-    requires { ⌜ i + 1 < 34 ⌝ }
+fn two_at(b: [u8; BYTES], i: usize) -> u16
+    requires { ⌜ i + 1 < lineBytes ⌝ }
     ensures { λ r. ⌜ r ≡ two b i ⌝ }
 {
     two(b[i], b[i + 1])
 }
 
 // The number that the four bytes from i on make.
-fn four_at(b: [u8; 34], i: usize) -> u32
-    requires { ⌜ i + 3 < 34 ⌝ }
+fn four_at(b: [u8; BYTES], i: usize) -> u32
+    requires { ⌜ i + 3 < lineBytes ⌝ }
     ensures { λ r. ⌜ r ≡ four b i ⌝ }
 {
     (two_at(b, i) as u32) << 16 | two_at(b, i + 2) as u32
 }
 
 // The tag at i and the number that the four bytes after it make.
-fn tagged_at(b: [u8; 34], i: usize) -> Tagged
-    requires { ⌜ i + 4 < 34 ⌝ }
+fn tagged_at(b: [u8; BYTES], i: usize) -> Tagged
+    requires { ⌜ i + 4 < lineBytes ⌝ }
     ensures { λ r. ⌜ r ≡ tagged b i ⌝ }
 {
     Tagged {
@@ -106,7 +108,7 @@ fn tagged_at(b: [u8; 34], i: usize) -> Tagged
 }
 
 // The fields that 34 bytes hold.
-pub fn fields_in(b: [u8; 34]) -> Fields
+pub fn fields_in(b: [u8; BYTES]) -> Fields
     ensures { λ r. ⌜ r ≡ fieldsIn b ⌝ }
 {
     Fields {
@@ -129,10 +131,10 @@ pub fn fields_in(b: [u8; 34]) -> Fields
 }
 
 // The 34 bytes that hold the fields.
-pub fn bytes_in(f: Fields) -> [u8; 34]
+pub fn bytes_in(f: Fields) -> [u8; BYTES]
     ensures { λ r. ⌜ r ≡ bytesIn f ⌝ }
 {
-    let mut b = [0u8; 34];
+    let mut b = [0u8; BYTES];
     b[0] = f.kind;
     b[3] = f.month;
     b[4] = f.days;

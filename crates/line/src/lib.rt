@@ -7,6 +7,7 @@ pub mod record;
 pub mod refusal;
 mod rows;
 
+pub use digits::DIGITS;
 pub use digits::Hex;
 use digits::are_digits;
 pub use digits::byte_in;
@@ -34,14 +35,12 @@ use rows::first_row;
 pub use rows::product_row;
 ghost use mathlib.Core.Path.{_≡_};
 ghost use lib.ListN.{take};
+ghost use Rattle.line.specs.Digits.{lineLength};
 ghost use Rattle.line.specs.Percent.{amountOf};
 ghost use Rattle.line.specs.Read.{readOf};
 ghost use Rattle.line.specs.Write.{writtenOf, bufferAfter};
 ghost use Rattle.line.specs.declared.record.Read.the-variants.{Whole};
 ghost use Rattle.line.specs.declared.record.Written.the-variants.{Done};
-
-// How many digits a line has.
-const DIGITS: usize = 68;
 
 // The record that a line holds, or the number of the first row that refuses it.
 pub fn read(line: &[u8]) -> Read
@@ -66,7 +65,7 @@ pub fn read(line: &[u8]) -> Read
 pub fn write(record: Record, buffer: &mut [u8]) -> Written
     ensures answer { λ r. ⌜ r ≡ writtenOf «record» (now (buffer .entry)) ⌝ }
     ensures bytes { λ r. ⌜ now (buffer .exit) ≡ bufferAfter «record» (now (buffer .entry)) ⌝ }
-    ensures back { λ r. ⌜ (r ≡ Done → readOf (take 68 (now (buffer .exit))) ≡ Whole «record») ⌝ }
+    ensures back { λ r. ⌜ (r ≡ Done → readOf (take lineLength (now (buffer .exit))) ≡ Whole «record») ⌝ }
 {
     if buffer.len() < DIGITS {
         return Written::Refused(SHORT);

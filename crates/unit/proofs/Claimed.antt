@@ -8,6 +8,7 @@ use lib.Seq.{append-snoc}
 use Rattle.grounds.specs.Claim.{Grounds, Claim}
 use Rattle.grounds.proofs.Claim.{Shows, claim}
 use Rattle.laws.proofs.Bools.{or-either, either}
+use Rattle.laws.proofs.Gathered.{with-one-more}
 use Rattle.unit.specs.Claim.{Step, historyFrom, history, isPassed, sinceFrom, since, openedIn, CHARTS, limit, entriesOf, shown, ClaimOf}
 use Rattle.unit.specs.Reached.{after, replay}
 use Rattle.unit.specs.Since.{admits, EndsAdmitted, Since, SinceIs}
@@ -61,8 +62,7 @@ claim-holds ls u e =
 -- ---- what `since` is
 
 admits-more : (h : List Step) (x : Step) → admits (h ++ x ∷ []) ≡ (admits h || isPassed (x .event))
-admits-more [] x = or-false (isPassed (x .event))
-admits-more (y ∷ h) x = ap (λ (b : Bool). isPassed (y .event) || b) (admits-more h x) ∙ sym (or-assoc (isPassed (y .event)) (admits h) (isPassed (x .event)))
+admits-more = with-one-more _||_ false (λ b. refl) or-false or-assoc (λ (x : Step). isPassed (x .event)) admits refl (λ x h. refl)
 
 since-from : (before kept h : List Step) → (before ≡ []) ⊎ EndsAdmitted before → admits kept ≡ false → Since (before ++ kept ++ h) (sinceFrom kept h)
 since-from before kept [] s n = record { before = before; split = sym (append-nil (before ++ kept)); start = s; none = n }

@@ -31,10 +31,13 @@ pub fourth-positive : (x b : ℕ) → b < x ^ 4 → 1 ≤ x
 fourth-positive zero b h = absurd (omega (arith, fourth 0))
 fourth-positive (suc x) b h = omega arith
 
--- a number whose fourth power is within a mean's bound
-pub root-small : (m q : ℕ) → m ≤ MOST → q ^ 4 ≤ rooted m → q < 31623
+-- its fourth power is above every mean's bound
+abbrev pub END : ℕ
+END = 31623
+
+pub root-small : (m q : ℕ) → m ≤ MOST → q ^ 4 ≤ rooted m → q < END
 root-small m q h k =
-    lt-of-not-le (λ (l : 31623 ≤ q). lt-irrefl (rooted m) (lt-of-lt-of-le (lt-of-le-of-lt (mul-le-mul-right (10 ^ 14) h) (lit< tt)) (le-trans (pow-le-pow-left l 4) k)))
+    lt-of-not-le (λ (l : END ≤ q). lt-irrefl (rooted m) (lt-of-lt-of-le (lt-of-le-of-lt (mul-le-mul-right (10 ^ 14) h) (lit< tt)) (le-trans (pow-le-pow-left l 4) k)))
 
 pub root-right : (m : ℕ) → m ≤ MOST → IsRoot 4 (rooted m) (rootOf m)
 root-right m h = right 15 4 (rooted m) zero-le (lt-of-le-of-lt (mul-le-mul-right (10 ^ 14) h) (lit< tt))

@@ -14,6 +14,7 @@ use Rattle.grounds.proofs.Charted as G
 use Rattle.grounds.proofs.Missed.{Missed, missed-none, missed-missed, missed-sample}
 use Rattle.laws.proofs.Below.{below}
 use Rattle.laws.proofs.Bools.{or-neither, and-fails}
+use Rattle.laws.proofs.Gathered.{with-one-more}
 use Rattle.line.specs.Read.{readOf}
 use Rattle.line.specs.Refused.{firstRow, MAINTENANCE, STUDY}
 use Rattle.line.specs.declared.record.Record.{Record}
@@ -50,12 +51,10 @@ pub record Kept (u : U.Unit) (h : List Step) : Type 0 where
 -- ---- one more step
 
 entries-more : (h : List Step) (x : Step) → entriesOf (h ++ x ∷ []) ≡ entriesOf h ++ entryIn x
-entries-more [] x = append-nil (entryIn x)
-entries-more (y ∷ h) x = ap (λ (es : List Entry). entryIn y ++ es) (entries-more h x) ∙ sym (append-assoc (entryIn y) (entriesOf h) (entryIn x))
+entries-more = with-one-more _++_ [] (λ es. refl) append-nil append-assoc entryIn entriesOf refl (λ x h. refl)
 
 opened-more : (h : List Step) (x : Step) → openedIn (h ++ x ∷ []) ≡ (openedIn h || opens (x .event))
-opened-more [] x = or-false (opens (x .event))
-opened-more (y ∷ h) x = ap (λ (b : Bool). opens (y .event) || b) (opened-more h x) ∙ sym (or-assoc (opens (y .event)) (openedIn h) (opens (x .event)))
+opened-more = with-one-more _||_ false (λ b. refl) or-false or-assoc (λ (x : Step). opens (x .event)) openedIn refl (λ x h. refl)
 
 no-entry : (h : List Step) (x : Step) → entryIn x ≡ [] → entriesOf (h ++ x ∷ []) ≡ entriesOf h
 no-entry h x e = entries-more h x ∙ ap (λ (es : List Entry). entriesOf h ++ es) e ∙ append-nil (entriesOf h)

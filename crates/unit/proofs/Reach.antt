@@ -94,11 +94,11 @@ bounded-after u (l ∷ ls) k = bounded-after (takenOf u l .unit) ls (bounded-tak
 pub reached-bounded : (u : U.Unit) → Reached u → Bounded u
 reached-bounded u r = subst Bounded (r .1) (bounded-after newUnit (r .0) bounded-new)
 
--- ---- one more line
+-- ---- lines one after the other
 
-after-more : (u : U.Unit) (ls : List (List ℕ)) (l : List ℕ) → after u (ls ++ l ∷ []) ≡ takenOf (after u ls) l .unit
-after-more u [] l = refl
-after-more u (k ∷ ls) l = after-more (takenOf u k .unit) ls l
+pub after-append : (u : U.Unit) (ls ms : List (List ℕ)) → after u (ls ++ ms) ≡ after (after u ls) ms
+after-append u [] ms = refl
+after-append u (l ∷ ls) ms = after-append (takenOf u l .unit) ls ms
 
 pub reached-more : (u : U.Unit) (l : List ℕ) → Reached u → Reached (takenOf u l .unit)
-reached-more u l r = (r .0 ++ l ∷ [], after-more newUnit (r .0) l ∙ ap (λ (v : U.Unit). takenOf v l .unit) (r .1))
+reached-more u l r = (r .0 ++ l ∷ [], after-append newUnit (r .0) (l ∷ []) ∙ ap (λ (v : U.Unit). takenOf v l .unit) (r .1))

@@ -4,17 +4,20 @@ ghost use Prim.Native.Nat.{_<_, _≤_, _^_};
 ghost use Rattle.line.specs.Refused.{MOST};
 ghost use Rattle.unit.specs.Difference.{rootOf};
 
-// A part t of a, in 2^-15.
+// 1, in the fractions that t has.
+const ONE: u64 = 32_768;
+
+// A part t of a.
 fn part(a: u64, t: u64) -> u64
-    requires { ⌜ (a < 4294967296) × (t < 32768) ⌝ }
+    requires { ⌜ (a < 2 ^ 32) × (t < 2 ^ 15) ⌝ }
     ensures { λ r. ⌜ r ≤ a ⌝ }
 {
-    a * t >> 15
+    a * t / ONE
 }
 
 // 10^3.5 times the fourth root of 1, 2, 4 or 8, in 2^-10.
 fn scale(twos: u32) -> u64
-    ensures { λ r. ⌜ r ≤ 5445935 ⌝ }
+    ensures { λ r. ⌜ r < 2 ^ 23 ⌝ }
 {
     match twos {
         0 => 3_238_172,
@@ -27,10 +30,10 @@ fn scale(twos: u32) -> u64
 // A first guess at q. For every mean from 1 on it is at most 1 off, but nothing hangs on that:
 // `root` mends it, whatever it is. So nothing is said of it.
 fn guess(m: u16) -> u16 {
-    // m is 2^twos times 1 + t, with t in 2^-15
+    // m is 2^twos times 1 + t
     let zeros = u16::leading_zeros(m) % 16;
     let twos = 15 - zeros;
-    let t = ((m as u64) << zeros) % 32768;
+    let t = ((m as u64) << zeros) % ONE;
     // the fourth root of 1 + t, in 2^-30
     let a = 39_968_789 - part(9_613_669, t);
     let b = 94_994_528 - part(a, t);

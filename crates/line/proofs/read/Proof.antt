@@ -5,7 +5,7 @@ use mathlib.Core.Path.{_≡_, sym, ap, _∙_}
 use mathlib.Core.Bool.{true}
 use denote.Ref.{now}
 use lib.ListN.{length}
-use Rattle.line.specs.Digits.{areDigits}
+use Rattle.line.specs.Digits.{lineLength, areDigits}
 use Rattle.line.specs.Fields.{fieldsIn, recordOf}
 use Rattle.line.specs.Read.{fieldsAt}
 use Rattle.line.specs.Refused.{firstRow, fieldRows}
@@ -21,7 +21,7 @@ good c = sym (c .before .are-digits .ensures) ∙ not-false _ (c .if2 .left)
 fields-are : (c : tie.After-fields-in) → c .fields-in .result ≡ fieldsAt (now (c .before .before .before .before .before .before .args .line))
 fields-are c = c .fields-in .ensures ∙ ap fieldsIn (c .before .bytes-of .ensures)
 
-long : (c : tie.After-first-row) → length (now (c .before .before .before .before .before .before .before .args .line)) ≡ 68
+long : (c : tie.After-first-row) → length (now (c .before .before .before .before .before .before .before .args .line)) ≡ lineLength
 long c = c .before .before .before .before .before .if1 .left
 
 row : (c : tie.After-first-row) → c .first-row .result ≡ firstRow (fieldRows (fieldsAt (now (c .before .before .before .before .before .before .before .args .line))))

@@ -4,7 +4,7 @@ use mathlib.Core.List.{List, _++_}
 use Prim.Native.Nat.{ℕ}
 use lib.ListN.{take, drop}
 use lib.Seq.{take-at}
-use Rattle.line.specs.Digits.{digitsOf}
+use Rattle.line.specs.Digits.{lineLength, digitsOf}
 use Rattle.line.specs.Fields.{fieldsOf, bytesIn}
 use Rattle.line.specs.Read.{readOf}
 use Rattle.line.specs.Write.{lineOf}
@@ -50,11 +50,11 @@ returns-3 c =
     let start = at .before .before .before .before .args in
     let d = done (start .«record») (start .buffer .now) (at .before .before .if1 .left) (sym (row at) ∙ c .before .before .before .before .before .if2 .left) in
     let bytes = c .before .before .before .before .bytes-in .ensures ∙ ap bytesIn (at .before .fields-of .ensures .0) in
-    let after = c .before .before .put .ensures ∙ ap (λ (b : List ℕ). digitsOf b ++ drop 68 (start .buffer .now)) bytes in (
+    let after = c .before .before .put .ensures ∙ ap (λ (b : List ℕ). digitsOf b ++ drop lineLength (start .buffer .now)) bytes in (
       d .0,
       (
         after ∙ d .1,
-        λ e. ap readOf (ap (take 68) after ∙ take-at (lineOf (start .«record»)) _ 68 (length-digitsOf (bytesIn (fieldsOf (start .«record»))))) ∙ read-again (start .«record») (at .before .fields-of .ensures .1) (sym (row at) ∙ c .before .before .before .before .before .if2 .left),
+        λ e. ap readOf (ap (take lineLength) after ∙ take-at (lineOf (start .«record»)) _ lineLength (length-digitsOf (bytesIn (fieldsOf (start .«record»))))) ∙ read-again (start .«record») (at .before .fields-of .ensures .1) (sym (row at) ∙ c .before .before .before .before .before .if2 .left),
       ),
     )
 

@@ -5,19 +5,19 @@ use native.Mathlib.Omega.{arith}
 use Prim.Native.Nat.{ℕ, _-_, _≤_, _<_, _*_, _+_}
 use denote.Ref.{now}
 use lib.ListN.{length, length-set, getD}
-use Rattle.line.specs.Digits.{digitValue}
+use Rattle.line.specs.Digits.{lineLength, lineBytes, digitValue}
 use Rattle.line.proofs.ByteLaws.{pairAt, value-at, value-at-lt, entry-more, bytes-are}
 use Rattle.line.proofs.digits.bytes_of.Statement.{statement}
 use Rattle.line.proofs.digits.bytes_of.Tie as tie
 
 abbrev Inv-loop : tie.InvT-loop
-Inv-loop line values bytes₀ i₀ bytes i = (i ≤ 34) × (length bytes ≡ 34) × ((k : ℕ) → k < i → getD bytes k 0 ≡ pairAt line k)
+Inv-loop line values bytes₀ i₀ bytes i = (i ≤ lineBytes) × (length bytes ≡ lineBytes) × ((k : ℕ) → k < i → getD bytes k 0 ≡ pairAt line k)
 
 abbrev μ-loop : tie.MeasureT-loop
-μ-loop line values bytes₀ i₀ bytes i = 34 - i
+μ-loop line values bytes₀ i₀ bytes i = lineBytes - i
 
 -- a value is below 16
-below : (c : tie.In-loop Inv-loop μ-loop) (k : ℕ) → k < 68 → getD (c .before .before .values-of .result) k 0 < 16
+below : (c : tie.In-loop Inv-loop μ-loop) (k : ℕ) → k < lineLength → getD (c .before .before .values-of .result) k 0 < 16
 below c k h =
     let pre = c .before .before .before .before .pre in
     rw (c .before .before .values-of .ensures) (value-at-lt _ k (pre .1) (omega (arith, pre .0)))
@@ -71,7 +71,7 @@ loop-again c =
 returns : tie.Need-returns Inv-loop μ-loop
 returns c =
     let at = c .before .loop in
-    bytes-are _ _ 34 (c .before .before .before .before .pre .0) (at .inv .1) (λ k p. at .inv .2 k (omega arith))
+    bytes-are _ _ lineBytes (c .before .before .before .before .pre .0) (at .inv .1) (λ k p. at .inv .2 k (omega arith))
 
 pub bytes-of-spec : {M : Type 1} → statement M
 bytes-of-spec =

@@ -6,16 +6,16 @@ use mathlib.Core.Path.{_≡_, refl, sym, ap, _∙_}
 use mathlib.Core.List.{List, _++_}
 use lib.ListN.{length, drop, length-set}
 use lib.Seq.{take-all}
-use Rattle.line.specs.Digits.{digitsOf}
+use Rattle.line.specs.Digits.{lineLength, lineBytes, digitsOf}
 use Rattle.line.proofs.ByteLaws.{writtenTo, write-more}
 use Rattle.line.proofs.digits.put.Statement.{statement}
 use Rattle.line.proofs.digits.put.Tie as tie
 
 abbrev Inv-loop : tie.InvT-loop
-Inv-loop buffer₀ bytes i₀ buffer i = (i ≤ 34) × (length bytes ≡ 34) × (length buffer ≡ length buffer₀) × (buffer ≡ writtenTo bytes buffer₀ i)
+Inv-loop buffer₀ bytes i₀ buffer i = (i ≤ lineBytes) × (length bytes ≡ lineBytes) × (length buffer ≡ length buffer₀) × (buffer ≡ writtenTo bytes buffer₀ i)
 
 abbrev μ-loop : tie.MeasureT-loop
-μ-loop buffer₀ bytes i₀ buffer i = 34 - i
+μ-loop buffer₀ bytes i₀ buffer i = lineBytes - i
 
 loop-holds : tie.Need-loop-holds Inv-loop μ-loop
 unfolding digitsOf
@@ -58,7 +58,7 @@ loop-again : tie.Need-loop-again Inv-loop μ-loop
 loop-again c =
     let at = c .before .before .before .loop in
     let start = c .before .before .before .before .before .args in
-    let bytes : length (start .t1) ≡ 34 = at .inv .1 in (
+    let bytes : length (start .t1) ≡ lineBytes = at .inv .1 in (
       omega arith,
       bytes,
       simp length-set (at .inv .2),
@@ -73,10 +73,10 @@ same-length c = search needs
 returns : tie.Need-returns Inv-loop μ-loop
 returns c =
     let at = c .before .loop in
-    let every : at .i ≡ 34 = omega arith in
+    let every : at .i ≡ lineBytes = omega arith in
     at .inv .3
     ∙ ap (writtenTo (c .before .before .before .args .t1) (c .before .before .before .args .buffer .now)) every
-    ∙ ap (λ (bytes : List ℕ). digitsOf bytes ++ drop 68 (c .before .before .before .args .buffer .now)) (take-all 34 _ (omega arith))
+    ∙ ap (λ (bytes : List ℕ). digitsOf bytes ++ drop lineLength (c .before .before .before .args .buffer .now)) (take-all lineBytes _ (omega arith))
 
 pub put-spec : {M : Type 1} → statement M
 put-spec =

@@ -5,16 +5,16 @@ use native.Mathlib.Omega.{arith}
 use Prim.Native.Nat.{ℕ, _-_, _≤_}
 use denote.Ref.{now}
 use lib.ListN.{length, length-set, getD}
-use Rattle.line.specs.Digits.{digitValue}
+use Rattle.line.specs.Digits.{lineLength, digitValue}
 use Rattle.line.proofs.ByteLaws.{ValuesTo, digit-at, entry-more, values-are}
 use Rattle.line.proofs.digits.values_of.Statement.{statement}
 use Rattle.line.proofs.digits.values_of.Tie as tie
 
 abbrev Inv-loop : tie.InvT-loop
-Inv-loop line values₀ i₀ values i = (i ≤ 68) × (length values ≡ 68) × ValuesTo line i values
+Inv-loop line values₀ i₀ values i = (i ≤ lineLength) × (length values ≡ lineLength) × ValuesTo line i values
 
 abbrev μ-loop : tie.MeasureT-loop
-μ-loop line values₀ i₀ values i = 68 - i
+μ-loop line values₀ i₀ values i = lineLength - i
 
 loop-holds : tie.Need-loop-holds Inv-loop μ-loop
 loop-holds c = (search needs, refl, λ k p. absurd (omega arith))

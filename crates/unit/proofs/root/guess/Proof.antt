@@ -1,5 +1,6 @@
 -- `guess` ends and loses nothing on the way. How near it comes is not said. Assumes nothing.
 use borrow.Author.Needs.{needs}
+use Prim.Native.Nat.{_^_}
 use native.Mathlib.Nat.{mul-le-mul}
 use native.Mathlib.Omega.{arith}
 use mir.Facts.{fits-le, fits-lit}
@@ -44,7 +45,7 @@ scale-requires c κs = search needs
 
 mul-q : tie.Need-mul-q
 mul-q c =
-    fits-le (mul-le-mul {n₂ = 1341533332} {m₂ = 5445935} (omega arith) (c .scale .ensures)) (fits-lit tt)
+    fits-le (mul-le-mul {n₂ = 2 ^ 31} {m₂ = 2 ^ 23} (omega arith) (omega (arith, c .scale .ensures))) (fits-lit tt)
 
 cast-q : tie.Need-cast-q
 cast-q c = search needs

@@ -7,7 +7,7 @@ use native.Mathlib.Numerals.{add-one}
 use native.Mathlib.Omega.{arith}
 use Rattle.unit.specs.Difference.{rooted}
 use Rattle.unit.proofs.Largest.{unique}
-use Rattle.unit.proofs.Fourth.{fourth-positive, root-small, root-right}
+use Rattle.unit.proofs.Fourth.{END, fourth-positive, root-small, root-right}
 use Rattle.unit.proofs.root.root.Statement.{statement}
 use Rattle.unit.proofs.root.root.Tie as tie
 
@@ -18,10 +18,10 @@ abbrev μ-loop : tie.MeasureT-loop
 μ-loop m bound q₀ q = q
 
 abbrev Inv-loop2 : tie.InvT-loop2
-Inv-loop2 m bound q₀ q = (q ^ 4 ≤ rooted m) × (q < 31623)
+Inv-loop2 m bound q₀ q = (q ^ 4 ≤ rooted m) × (q < END)
 
 abbrev μ-loop2 : tie.MeasureT-loop2
-μ-loop2 m bound q₀ q = 31623 - q
+μ-loop2 m bound q₀ q = END - q
 
 -- where the fourth power is above the bound, there is a smaller number
 down : (c : tie.Then1 Inv-loop μ-loop Inv-loop2 μ-loop2) → 1 ≤ c .before .before .loop .q

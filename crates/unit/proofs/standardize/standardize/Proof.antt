@@ -64,7 +64,10 @@ returns-4 c =
 
 returns-5 : tie.Need-returns-5
 unfolding standardizedOf
-returns-5 c = rw (passed (c .before .before .before .before), mean-good (c .before), lt-ltb MOST _ (c .if5 .taken))
+returns-5 c =
+    let m = c .before in
+    let a = m .before .before .before .before .before .before .args in
+    rw (passed (m .before .before .before), mean-good m, lt-ltb MOST (a .reading) (omega (arith, c .if5 .taken, m .if4 .left)))
 
 fill-requires : tie.Need-fill-requires
 fill-requires c κs =
@@ -76,7 +79,8 @@ returns-6 : tie.Need-returns-6
 unfolding standardizedOf
 returns-6 c =
     let m = c .before .before in
-    rw (passed (m .before .before .before), mean-good m, le-ltb MOST _ (c .before .if5 .left)) (ap Given (c .fill .ensures))
+    let a = m .before .before .before .before .before .before .args in
+    rw (passed (m .before .before .before), mean-good m, le-ltb MOST (a .reading) (omega (arith, c .before .if5 .left))) (ap Given (c .fill .ensures))
 
 pub standardize-spec : {M : Type 1} → statement M
 standardize-spec =
