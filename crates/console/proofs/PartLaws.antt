@@ -1,5 +1,5 @@
 -- A part of a line, bytes with no newline among them: where it ends, and what it does to a console. Assumes nothing.
-use Prim.Native.Nat.{ℕ, zero, suc, _+_, _-_, _≤_, _<_}
+use Prim.Native.Nat.{ℕ, suc, _+_, _-_, _≤_, _<_}
 use mathlib.Core.Path.{_≡_, refl, sym, ap, ap₂, _∙_}
 use mathlib.Core.Bool.{Bool, false, _||_, _&&_, or-false, or-assoc}
 use mathlib.Core.Logic.{⊎-elim}

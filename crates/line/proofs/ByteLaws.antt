@@ -1,7 +1,7 @@
 -- Digits and bytes as lists: each is the other's inverse, and what stands at an index. Assumes nothing.
 use Prim.Native.Nat.{ℕ, zero, suc, _+_, _*_, _/_, _%_, _<_}
 use mathlib.Core.Path.{_≡_, refl, sym, ap, _∙_}
-use mathlib.Core.Bool.{Bool, true, _&&_, and-true, and-assoc}
+use mathlib.Core.Bool.{true, _&&_, and-true, and-assoc}
 use mathlib.Core.List.{List, [], _∷_, _++_, map, append-nil, append-assoc}
 use native.Mathlib.Numerals.{add-one}
 use native.Mathlib.Omega.{arith}

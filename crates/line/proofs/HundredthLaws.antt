@@ -1,12 +1,11 @@
 -- The hundredths of an accepted pattern, by shifts of its significand. Assumes nothing.
 use Prim.Native.Nat.{ℕ, zero, suc, _+_, _-_, _*_, _/_, _%_, _^_, _≤_, _<_}
 use mathlib.Core.Path.{_≡_, refl, sym, ap, ap₂, _∙_, subst}
-use mathlib.Core.Bool.{Bool, true, false, cond}
-use native.Mathlib.Nat.{le-trans, lt-of-lt-of-le, mul-pos, one-mul, mul-le-mul-left, mul-le-mul-right, mul-comm, div-eq-of-lt, div-lt-iff-lt-mul, pow-succ'}
+use mathlib.Core.Bool.{Bool, false, cond}
+use native.Mathlib.Nat.{le-trans, lt-of-lt-of-le, mul-pos, one-mul, mul-le-mul-left, mul-le-mul-right, div-eq-of-lt, div-lt-iff-lt-mul, pow-succ'}
 use native.Mathlib.Omega.{arith}
 use borrow.Author.Tests.{lt-leb, le-leb, ne-eqb}
 use lib.Dec.{T, leb, eqb, lit≤, lit<}
-use lib.IntN.{ℤ}
 use lib.Pow.{pow-pos, pow-mono, pow-add, shl-exact}
 use lib.Ieee.{Float, nan, inf, fin, binary32, up, down, odd, ofFields, ofBits, toBits, fits}
 use lib.Ieee.Bits.{ofBits-toBits, toBits-lt}

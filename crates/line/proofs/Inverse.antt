@@ -2,16 +2,15 @@
 use Prim.Native.Nat.{ℕ, zero, suc, _+_, _*_, _/_, _%_, _^_, _≤_, _<_}
 use mathlib.Core.Path.{_≡_, refl, sym, ap, ap₂, _∙_, subst}
 use mathlib.Core.Bool.{Bool, true, false, cond, not}
-use mathlib.Core.List.{List, [], _∷_, _++_}
+use mathlib.Core.List.{List, [], _++_}
 use mathlib.Core.Logic.{_⊎_, inl, inr, ⊎-elim}
 use native.Mathlib.Omega.{arith}
-use borrow.Author.Tests.{eq-eqb, ne-eqb, eqb-true, eqb-false, not-false}
+use borrow.Author.Tests.{eqb-true, not-false}
 use lib.Dec.{T, eqb}
 use lib.ListN.{length, take, drop}
 use lib.Seq.{take-at}
-use lib.Ieee.{binary32, fits, ofBits, toBits}
+use lib.Ieee.{binary32, ofBits, toBits}
 use lib.Ieee.Bits.{ofBits-toBits, toBits-ofBits, toBits-lt, nanBits-is}
-use Rattle.laws.proofs.Bools.{either}
 use Rattle.line.specs.Digits.{lineLength, lineBytes, areDigits, bytesOf, digitsOf}
 use Rattle.line.specs.Fields.{four, bytes2, bytes5, fieldsIn, bytesIn, readingOf, taggedOf, recordOf, fieldsOf}
 use Rattle.line.specs.Held.{HeldReading, Held}
@@ -23,7 +22,7 @@ use Rattle.line.specs.declared.fields.Tagged.{Tagged}
 use Rattle.line.specs.declared.record.Record.{Record}
 use Rattle.line.specs.declared.record.Reading.{Reading}
 use Rattle.line.specs.declared.record.Reading.the-variants.{Percent, NothingFound, Lost}
-use Rattle.line.specs.declared.record.Read.the-variants.{Whole, Refused}
+use Rattle.line.specs.declared.record.Read.the-variants.{Whole}
 use Rattle.line.specs.declared.record.Written.the-variants.{Done}
 use Rattle.line.proofs.ByteLaws.{AreBytes, length-digitsOf, digitsOf-are, bytes-digits, digits-bytes, bytesOf-are, length-bytesOf}
 use Rattle.line.proofs.FieldLaws.{byte-at, bytes-back}

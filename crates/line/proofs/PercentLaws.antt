@@ -2,11 +2,10 @@
 use Prim.Native.Nat.{ℕ, zero, suc, _+_, _-_, _*_, _/_, _%_, _^_, _≤_, _<_}
 use mathlib.Core.Path.{_≡_, refl, sym, ap, ap₂, _∙_, subst}
 use mathlib.Core.Bool.{Bool, true, false, cond, not, _&&_, and-false, true≢false}
-use mathlib.Core.Logic.{_⊎_, inl, inr, ⊎-elim}
-use native.Mathlib.Nat.{le-trans, lt-of-lt-of-le, le-of-mul-le-mul-right, lt-of-mul-lt-mul-right, mul-le-mul, mul-le-mul-right, mul-lt-mul-of-pos-right, mul-one, eq-or-lt-of-le}
+use mathlib.Core.Logic.{_⊎_, ⊎-elim}
+use native.Mathlib.Nat.{le-trans, lt-of-lt-of-le, le-of-mul-le-mul-right, lt-of-mul-lt-mul-right, mul-le-mul, mul-le-mul-right, mul-lt-mul-of-pos-right, eq-or-lt-of-le}
 use native.Mathlib.Omega.{arith}
 use borrow.Author.Tests.{le-leb, lt-leb, leb-true, leb-false, eqb-true, eqb-false, eq-eqb, ne-eqb}
-use lib.IntN.{ℤ}
 use lib.Dec.{T, leb, eqb, lit≤, lit<}
 use lib.Pow.{pow-pos, pow-mono}
 use lib.Ieee.{Float, nan, inf, fin, binary32, up, down, odd, ofFields, ofBits, isNan, ne}

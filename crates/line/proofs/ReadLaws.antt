@@ -1,8 +1,7 @@
 -- What `readOf` gives, case by case, and the law of the least row. Assumes nothing.
 use Prim.Native.Nat.{ℕ, zero, suc, _≤_, _<_}
-use mathlib.Core.Path.{_≡_, refl, sym, ap, _∙_, subst}
-use mathlib.Core.Bool.{Bool, true, false, cond, not, _&&_, _||_, and-false}
-use mathlib.Core.Logic.{_⊎_, inl, inr, ⊎-elim}
+use mathlib.Core.Path.{_≡_, refl, sym, ap, _∙_}
+use mathlib.Core.Bool.{Bool, true, false, cond, _&&_, and-false}
 use mathlib.Core.List.{List, [], _∷_}
 use native.Mathlib.Omega.{arith}
 use borrow.Author.Tests.{eq-eqb, ne-eqb}
@@ -14,7 +13,6 @@ use Rattle.line.specs.Fields.{recordOf}
 use Rattle.line.specs.Read.{fieldsAt, lineRows, readBy, readOf, Answered}
 use Rattle.line.specs.Refused.{Row, firstRow, rowFits, fieldRows}
 use Rattle.line.specs.declared.record.Record.{Record}
-use Rattle.line.specs.declared.record.Read.{Read}
 use Rattle.line.specs.declared.record.Read.the-variants.{Whole, Refused}
 
 -- ---- the first row that fits is the least, where the numbers rise from lo

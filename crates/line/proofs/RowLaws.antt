@@ -1,17 +1,16 @@
 -- What it says of the fields that no row fits. Assumes nothing.
 use Prim.Native.Nat.{ℕ, suc, _%_, _^_, _≤_, _<_}
-use mathlib.Core.Path.{_≡_, refl, sym, ap, _∙_, subst}
+use mathlib.Core.Path.{_≡_, refl, sym, _∙_, subst}
 use mathlib.Core.Bool.{Bool, true, false, cond, not, _&&_, _||_, false≢true}
-use mathlib.Core.List.{List}
 use native.Mathlib.Omega.{arith}
 use borrow.Author.Tests.{ltb-false, lt-ltb, le-ltb, leb-true, eq-eqb, eqb-true, not-false}
-use lib.Dec.{T, ltb, leb, eqb}
+use lib.Dec.{T, ltb, eqb}
 use lib.Ieee.{binary32, nanBits, ofBits}
 use lib.Ieee.Bits.{nanBits-above}
 use Rattle.laws.proofs.Bools.{or-neither}
 use Rattle.line.specs.Fields.{PERCENT, LOST}
 use Rattle.line.specs.Percent.{accepted}
-use Rattle.line.specs.Refused.{Row, firstRow, rowsOf, fieldRows, kindRow, dateRow, productRow, meanRow, readingRow}
+use Rattle.line.specs.Refused.{firstRow, fieldRows, kindRow, dateRow, productRow, meanRow, readingRow}
 use Rattle.line.specs.declared.fields.Fields.{Fields}
 use Rattle.line.specs.declared.fields.Tagged.{Tagged}
 use Rattle.line.proofs.PercentLaws.{accepted-pattern}

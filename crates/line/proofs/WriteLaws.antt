@@ -10,7 +10,6 @@ use Rattle.line.specs.Digits.{lineLength}
 use Rattle.line.specs.Refused.{firstRow, fieldRows, SHORT}
 use Rattle.line.specs.Write.{lineOf, writeRows, writtenBy, bufferBy, writtenOf, bufferAfter}
 use Rattle.line.specs.declared.record.Record.{Record}
-use Rattle.line.specs.declared.record.Written.{Written}
 use Rattle.line.specs.declared.record.Written.the-variants.{Done, Refused}
 
 -- refused with n, and the buffer as before

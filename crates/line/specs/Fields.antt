@@ -1,10 +1,10 @@
 -- Document 01, "The line", the table of fields: 34 bytes as numbers, and these numbers as a record, both ways. High bytes come first.
-use Prim.Native.Nat.{ℕ, zero, suc, _+_, _*_, _/_, _%_}
-use mathlib.Core.Bool.{Bool, true, false, cond}
+use Prim.Native.Nat.{ℕ, _+_, _*_, _/_, _%_}
+use mathlib.Core.Bool.{cond}
 use mathlib.Core.List.{List, [], _∷_, _++_}
 use lib.Dec.{eqb}
 use lib.ListN.{getD}
-use lib.Ieee.{Float, binary32, ofBits, toBits}
+use lib.Ieee.{binary32, ofBits, toBits}
 use Rattle.line.specs.declared.fields.Fields.{Fields}
 use Rattle.line.specs.declared.fields.Tagged.{Tagged}
 use Rattle.line.specs.declared.record.Record.{Record}

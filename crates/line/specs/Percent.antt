@@ -1,7 +1,7 @@
 -- Document 01, "The line": which percent is accepted, and its hundredths. Both speak of the binary32 value: `fin s m e` is the number
 -- m · 2 ^ e, negative where s is true, and 2 ^ e is the fraction `up e` / `down e`.
 use Prim.Native.Nat.{ℕ, _+_, _*_, _/_}
-use mathlib.Core.Bool.{Bool, true, false, cond, not, _&&_}
+use mathlib.Core.Bool.{Bool, false, cond, not, _&&_}
 use lib.Dec.{leb}
 use lib.Ieee.{Float, nan, inf, fin, up, down}
 use Rattle.line.specs.declared.record.Reading.{Reading}

@@ -1,8 +1,8 @@
 -- What reading a line gives: document 01, "The line" and rows 1 to 7 of "Refused".
 use Prim.Native.Nat.{ℕ, zero, suc, _≤_, _<_}
 use mathlib.Core.Path.{_≡_}
-use mathlib.Core.Bool.{Bool, true, false, not}
-use mathlib.Core.List.{List, [], _∷_}
+use mathlib.Core.Bool.{true, false, not}
+use mathlib.Core.List.{List, _∷_}
 use lib.Dec.{eqb}
 use lib.ListN.{length}
 use Rattle.line.specs.Digits.{lineLength, areDigits, bytesOf}

@@ -1,6 +1,6 @@
 -- What writing a record into a lent buffer gives: document 01, "Refused", row 13 and the sentences on writing.
 use Prim.Native.Nat.{ℕ, zero, suc}
-use mathlib.Core.List.{List, [], _∷_, _++_}
+use mathlib.Core.List.{List, _∷_, _++_}
 use lib.Dec.{ltb}
 use lib.ListN.{length, drop}
 use Rattle.line.specs.Digits.{lineLength, digitsOf}

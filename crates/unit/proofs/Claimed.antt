@@ -1,15 +1,14 @@
 -- The claim holds of every list: what a unit keeps is kept over the whole list, and the status shows it. Assumes nothing.
-use Prim.Native.Nat.{ℕ, zero, suc, _≤_, _<_}
+use Prim.Native.Nat.{ℕ, _<_}
 use mathlib.Core.Path.{_≡_, refl, sym, ap, ap₂, _∙_, subst}
 use mathlib.Core.Bool.{Bool, true, false, cond, _||_, or-true, or-false, or-assoc}
 use mathlib.Core.Logic.{_⊎_, inl, inr, ⊎-elim}
 use mathlib.Core.List.{List, [], _∷_, _++_, append-nil, append-assoc}
 use lib.Seq.{append-snoc}
-use Rattle.grounds.specs.Claim.{Grounds, Claim}
 use Rattle.grounds.proofs.Claim.{Shows, claim}
-use Rattle.laws.proofs.Bools.{or-either, either}
+use Rattle.laws.proofs.Bools.{or-either}
 use Rattle.laws.proofs.Gathered.{with-one-more}
-use Rattle.unit.specs.Claim.{Step, historyFrom, history, isPassed, sinceFrom, since, openedIn, CHARTS, limit, entriesOf, shown, ClaimOf}
+use Rattle.unit.specs.Claim.{Step, historyFrom, history, isPassed, sinceFrom, since, CHARTS, limit, entriesOf, shown, ClaimOf}
 use Rattle.unit.specs.Reached.{after, replay}
 use Rattle.unit.specs.Since.{admits, EndsAdmitted, Since, SinceIs}
 use Rattle.unit.specs.Status.{analyteRows, four, sixteen, maskOf, rowsOf, statusOf}
@@ -18,7 +17,6 @@ use Rattle.unit.specs.Take.{newUnit, takenOf}
 use Rattle.unit.specs.declared.Unit as U
 use Rattle.unit.specs.declared.report.Row.{Row}
 use Rattle.unit.specs.declared.report.Rows.{Rows}
-use Rattle.unit.specs.declared.report.Report.{Report}
 use Rattle.unit.proofs.Kept.{Kept, fresh, step-kept, next}
 use Rattle.unit.proofs.View.{view, low, overAt, some-over, bit-of, shown-at}
 

@@ -4,7 +4,7 @@ use Prim.Native.Nat.{ℕ, zero, suc, _+_, _*_, _/_, _%_, _^_, _≤_, _<_}
 use mathlib.Core.Path.{_≡_, refl, sym, ap, _∙_}
 use mathlib.Core.Bool.{Bool, true, false, _||_, true≢false}
 use mathlib.Core.Logic.{_⊎_, inl, inr, ⊎-elim, _↔_}
-use mathlib.Core.List.{List, [], _∷_, _++_}
+use mathlib.Core.List.{List, [], _∷_}
 use native.Mathlib.Nat.{div-div-eq-div-mul, pow-succ', eq-or-lt-of-le, le-of-suc-le-suc}
 use native.Mathlib.Omega.{arith}
 use lib.Dec.{eqb, lit<}
@@ -13,7 +13,7 @@ use lib.ListN.{length, getD}
 use lib.Signed.{_≤ℤ_}
 use Rattle.grounds.specs.Chart.{over}
 use Rattle.grounds.proofs.Charted as G
-use Rattle.laws.proofs.Below.{All, below}
+use Rattle.laws.proofs.Below.{below}
 use Rattle.laws.proofs.Bools.{either, or-neither}
 use Rattle.unit.specs.Claim.{CHARTS, limit, differenceAt, contributionAt, bitAt, noRow}
 use Rattle.unit.specs.Contribution.{food, contributionsOf, limitOf}

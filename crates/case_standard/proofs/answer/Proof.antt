@@ -1,7 +1,7 @@
 -- `answer` meets its contract: each byte is the one that its two digits write. Assumes nothing.
 use mathlib.Core.Path.{_≡_, sym, _∙_}
 use borrow.Author.Needs.{needs}
-use Rattle.line.specs.declared.digits.Hex.the-variants.{Value, Bad}
+use Rattle.line.specs.declared.digits.Hex.the-variants.{Value}
 use Rattle.case_standard.specs.Answer.{byteAt}
 use Rattle.case_standard.proofs.answer.Statement.{statement}
 use Rattle.case_standard.proofs.answer.Tie as tie

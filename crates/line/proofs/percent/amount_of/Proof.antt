@@ -1,5 +1,5 @@
 -- `amount_of` meets its contract: a percent is accepted by its pattern. Assumes nothing.
-use mathlib.Core.Path.{_≡_, sym, ap, _∙_, subst}
+use mathlib.Core.Path.{sym, ap, _∙_, subst}
 use lib.Dec.{T}
 use Rattle.line.specs.declared.record.Amount.the-variants.{Hundredths}
 use Rattle.line.proofs.HundredthLaws.{amount-known, amount-unknown}

@@ -1,5 +1,5 @@
 -- `bits_of` meets its contract: only a NaN differs from itself. Assumes nothing.
-use mathlib.Core.Path.{sym, ap, subst, _∙_}
+use mathlib.Core.Path.{sym, ap, subst}
 use lib.Dec.{T}
 use lib.Ieee.{binary32, toBits}
 use lib.Ieee.Compare.{differs-from-itself}

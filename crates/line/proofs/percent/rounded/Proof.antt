@@ -1,7 +1,7 @@
 -- `rounded` meets its contract: the shifts are those of `hundredths-by-shifts`. Assumes nothing.
-use mathlib.Core.Path.{_≡_, refl, sym, ap, ap₂, _∙_}
+use mathlib.Core.Path.{_≡_, refl, sym, ap₂, _∙_}
 use native.Mathlib.Omega.{arith}
-use Prim.Native.Nat.{ℕ, _+_, _-_, _*_, _/_, _%_, _^_, _≤_, _<_}
+use Prim.Native.Nat.{ℕ, _+_, _-_, _*_, _/_, _%_, _^_, _<_}
 use Rattle.line.proofs.HundredthLaws.{no-hundredths, hundredths-by-shifts, half-le, shifted-lt, one-shifted}
 use borrow.Author.Needs.{needs}
 use Rattle.line.proofs.percent.rounded.Statement.{statement}

@@ -1,5 +1,5 @@
 -- `difference` meets its contract: the value is not 0. Assumes nothing.
-use mathlib.Core.Path.{_≡_, sym, subst, ap₂, _∙_}
+use mathlib.Core.Path.{sym, subst, ap₂, _∙_}
 use Prim.Native.Nat.{ℕ, _<_}
 use Rattle.unit.specs.Difference.{distance, differenceOf}
 use Rattle.unit.proofs.Value.{value-positive}

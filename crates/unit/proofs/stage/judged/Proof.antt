@@ -3,8 +3,6 @@ use mathlib.Core.Path.{sym, ap, ap₂, _∙_}
 use mathlib.Core.Bool.{Bool}
 use Prim.Native.Nat.{ℕ}
 use Rattle.unit.specs.Take.{noMisses, ACCREDITED, judgedBy}
-use Rattle.unit.specs.declared.Unit as U
-use Rattle.unit.specs.declared.Taken.{Taken}
 use Rattle.unit.specs.declared.set.Set.{Set}
 use Rattle.unit.specs.declared.stretch.Stretch.{Stretch}
 use Rattle.unit.specs.declared.event.Event.the-variants.{Passed, Failed}

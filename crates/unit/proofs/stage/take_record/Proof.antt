@@ -10,7 +10,6 @@ use Rattle.unit.specs.Bounds.{HeldSums, Capped}
 use Rattle.unit.specs.Study.{SET}
 use Rattle.unit.specs.Stretch.{anyOver, sampledOf}
 use Rattle.unit.specs.Take.{unitRows, missedBy, sampleBy, studyBy}
-use Rattle.unit.specs.declared.Unit as U
 use Rattle.unit.specs.declared.set.Set.{Set}
 use Rattle.unit.specs.declared.stretch.Stretch.{Stretch}
 use Rattle.unit.proofs.Taking.{refused-row, accepted-study, accepted-missed, accepted-sample, is-open, room, capped, entered-held}
