@@ -16,13 +16,12 @@ const ANSWER: usize = 69;
 
 // Puts a refusal's number as two digits and a newline, and says how many bytes that are.
 fn put_refusal(number: u8, out: &mut [u8]) -> usize
-    requires { ⌜ number ≤ 7 ⌝ }
     requires { ⌜ length (now out) ≡ ANSWER ⌝ }
     ensures room { λ r. ⌜ r ≤ ANSWER ⌝ }
     ensures put { λ r. ⌜ take r (now (out .exit)) ≡ refusal number ⌝ }
 {
-    out[0] = b'0';
-    out[1] = b'0' + number;
+    out[0] = line::high_digit(number);
+    out[1] = line::low_digit(number);
     out[2] = NEWLINE;
     3
 }

@@ -10,7 +10,7 @@ use lib.Seq.{take-suc, drop-cons, append-snoc, set-at, length-take-le, ext-getD,
 use borrow.Author.Count.{below-more}
 use Rattle.laws.proofs.Bools.{and-both}
 use Rattle.laws.proofs.Gathered.{joined, with-the-next, each}
-use Rattle.line.specs.Digits.{isDigit, digitValue, digitOf, areDigits, bytesOf, digitsOf}
+use Rattle.line.specs.Digits.{isDigit, digitValue, byteOf, highDigit, lowDigit, areDigits, bytesOf, digitsOf}
 use Rattle.line.proofs.DigitLaws.{value-lt, of-value, value-of, of-digit}
 
 -- ---- the digits of a line in turn
@@ -45,7 +45,7 @@ values-are l values m h = ext-getD 0 values (map digitValue l) (m ∙ sym (lengt
 -- ---- the byte that digits 2 k and 2 k + 1 write
 
 abbrev pub pairAt : List ℕ → ℕ → ℕ
-pairAt l k = 16 * digitValue (getD l (2 * k) 0) + digitValue (getD l (2 * k + 1) 0)
+pairAt l k = byteOf (digitValue (getD l (2 * k) 0)) (digitValue (getD l (2 * k + 1) 0))
 
 pair-tail : (c d : ℕ) (l : List ℕ) (k : ℕ) → pairAt (c ∷ d ∷ l) (suc k) ≡ pairAt l k
 pair-tail c d l k =
@@ -94,7 +94,7 @@ length-digitsOf (b ∷ bs) = rw (length-digitsOf bs) (omega arith)
 
 pub digitsOf-append : (xs bs : List ℕ) → digitsOf (xs ++ bs) ≡ digitsOf xs ++ digitsOf bs
 unfolding digitsOf
-digitsOf-append = joined _++_ [] (λ l. refl) append-nil append-assoc (λ b. digitOf (b / 16) ∷ digitOf (b % 16) ∷ []) digitsOf refl (λ b bs. refl)
+digitsOf-append = joined _++_ [] (λ l. refl) append-nil append-assoc (λ b. highDigit b ∷ lowDigit b ∷ []) digitsOf refl (λ b bs. refl)
 
 pub digitsOf-are : (bs : List ℕ) → AreBytes bs → areDigits (digitsOf bs) ≡ true
 unfolding digitsOf areDigits
@@ -105,10 +105,10 @@ pub bytes-digits : (bs : List ℕ) → AreBytes bs → bytesOf (digitsOf bs) ≡
 unfolding digitsOf bytesOf
 bytes-digits [] h = refl
 bytes-digits (b ∷ bs) h =
-    let e : 16 * (b / 16) + b % 16 ≡ b = omega arith in
+    let e : byteOf (b / 16) (b % 16) ≡ b = omega arith in
     rw (value-of (b / 16) (omega arith), value-of (b % 16) (omega arith), e, bytes-digits bs (h .1))
 
-high-low : (a b : ℕ) → b < 16 → ((16 * a + b) / 16 ≡ a) × ((16 * a + b) % 16 ≡ b)
+high-low : (a b : ℕ) → b < 16 → (byteOf a b / 16 ≡ a) × (byteOf a b % 16 ≡ b)
 high-low a b h = (omega arith, omega arith)
 
 pub digits-bytes : (l : List ℕ) (n : ℕ) → length l ≡ 2 * n → areDigits l ≡ true → digitsOf (bytesOf l) ≡ l
@@ -122,7 +122,7 @@ digits-bytes (c ∷ d ∷ l) (suc n) e h =
     let s = high-low (digitValue c) (digitValue d) (value-lt d (q .0)) in
     rw (s .0, s .1, of-value c (p .0), of-value d (q .0), digits-bytes l n (omega arith) (q .1))
 
-byte-lt : (c d : ℕ) → isDigit c ≡ true → isDigit d ≡ true → 16 * digitValue c + digitValue d < 256
+byte-lt : (c d : ℕ) → isDigit c ≡ true → isDigit d ≡ true → byteOf (digitValue c) (digitValue d) < 256
 byte-lt c d h k = omega (arith, value-lt c h, value-lt d k)
 
 pub bytesOf-are : (l : List ℕ) → areDigits l ≡ true → AreBytes (bytesOf l)
@@ -147,7 +147,7 @@ two-more x y D ys n h l e =
     ∙ ap (λ (b : List ℕ). b ++ ys) (append-assoc D (h ∷ []) (l ∷ []))
 
 pub write-more : (bytes buffer : List ℕ) (i h l : ℕ) → i < length bytes → 2 * i + 1 < length buffer
-    → h ≡ digitOf (getD bytes i 0 / 16) → l ≡ digitOf (getD bytes i 0 % 16)
+    → h ≡ highDigit (getD bytes i 0) → l ≡ lowDigit (getD bytes i 0)
     → set (set (writtenTo bytes buffer i) (2 * i) h) (2 * i + 1) l ≡ writtenTo bytes buffer (i + 1)
 unfolding digitsOf
 write-more bytes buffer i h l p q e f =

@@ -11,23 +11,25 @@ use lib.ListN.{length, take, drop}
 use lib.Seq.{take-at}
 use lib.Ieee.{binary32, ofBits, toBits}
 use lib.Ieee.Bits.{ofBits-toBits, toBits-ofBits, toBits-lt, nanBits-is}
+use Rattle.rows.specs.Rows.{firstRow}
+use Rattle.rows.proofs.RowsLaws.{passed}
 use Rattle.line.specs.Digits.{lineLength, lineBytes, areDigits, bytesOf, digitsOf}
 use Rattle.line.specs.Fields.{four, bytes2, bytes5, fieldsIn, bytesIn, readingOf, taggedOf, recordOf, fieldsOf}
-use Rattle.line.specs.Held.{HeldReading, Held}
+use Rattle.line.specs.bounds.Types.{Typed, TypedReading}
+use Rattle.line.specs.Inverse.{WritesBack}
 use Rattle.line.specs.Read.{fieldsAt, lineRows, readBy, readOf}
-use Rattle.line.specs.Refused.{firstRow, fieldRows, readingRow}
-use Rattle.line.specs.Write.{lineOf, writtenOf, bufferAfter}
+use Rattle.line.specs.Refused.{fieldRows, readingRow}
+use Rattle.line.specs.Write.{lineOf}
 use Rattle.line.specs.declared.fields.Fields.{Fields}
 use Rattle.line.specs.declared.fields.Tagged.{Tagged}
 use Rattle.line.specs.declared.record.Record.{Record}
 use Rattle.line.specs.declared.record.Reading.{Reading}
 use Rattle.line.specs.declared.record.Reading.the-variants.{Percent, NothingFound, Lost}
 use Rattle.line.specs.declared.record.Read.the-variants.{Whole}
-use Rattle.line.specs.declared.record.Written.the-variants.{Done}
 use Rattle.line.proofs.ByteLaws.{AreBytes, length-digitsOf, digitsOf-are, bytes-digits, digits-bytes, bytesOf-are, length-bytesOf}
 use Rattle.line.proofs.FieldLaws.{byte-at, bytes-back}
 use Rattle.line.proofs.ReadLaws.{read-whole}
-use Rattle.line.proofs.RowLaws.{passed, Clean, clean, good-reading, percent-bits, not-nan}
+use Rattle.line.proofs.RowLaws.{Clean, clean, good-reading, percent-bits, not-nan}
 use Rattle.line.proofs.WriteLaws.{done}
 
 -- ---- one reading
@@ -59,7 +61,7 @@ tagged-back t B e =
     (λ (z : t .tag ≡ 2). ap taggedOf (reading-by t 2 z) ∙ tagged-of 2 0 t (sym z) (sym (g .zero (λ (y : t .tag ≡ 0). omega arith)))))
     (tag-cases (t .tag) (g .tag))
 
-reading-back : (r : Reading) → HeldReading r → readingOf (taggedOf r) ≡ r
+reading-back : (r : Reading) → TypedReading r → readingOf (taggedOf r) ≡ r
 unfolding taggedOf readingOf
 reading-back (Percent x) h = ap Percent (ofBits-toBits binary32 x h)
 reading-back NothingFound h = refl
@@ -71,7 +73,7 @@ fields-back : (f : Fields) → f .moisture .bits < 2 ^ 32 → f .protein .bits <
 fields-back f A B C D c =
     rw (tagged-back (f .moisture) A (c .moisture), tagged-back (f .protein) B (c .protein), tagged-back (f .fat) C (c .fat), tagged-back (f .salt) D (c .salt))
 
-record-back : (r : Record) → Held r → recordOf (fieldsOf r) ≡ r
+record-back : (r : Record) → Typed r → recordOf (fieldsOf r) ≡ r
 record-back r h =
     rw (reading-back (r .readings .moisture) (h .reading0), reading-back (r .readings .protein) (h .reading1), reading-back (r .readings .fat) (h .reading2), reading-back (r .readings .salt) (h .reading3))
 
@@ -102,8 +104,8 @@ pub record Good (line : List ℕ) : Type 0 where
 pub good : (line : List ℕ) → firstRow (lineRows line) ≡ 0 → Good line
 unfolding firstRow
 good line e =
-    let l = passed 0 _ _ e in
-    let d = passed 1 _ _ (l .1) in
+    let l = passed _ _ _ e in
+    let d = passed _ _ _ (l .1) in
     record { long = eqb-true (length line) lineLength (not-false _ (l .0)); digits = not-false _ (d .0); rows = d .1 }
 
 fields-again : (line : List ℕ) → Good line → fieldsOf (recordOf (fieldsAt line)) ≡ fieldsAt line
@@ -123,8 +125,7 @@ pub line-back : (line : List ℕ) (r : Record) → readOf line ≡ Whole r → l
 line-back line r e = let p = read-is line r e in ap lineOf (p .1) ∙ line-again line (good line (p .0))
 
 -- Writing what was read returns the same line: into any buffer with room, writing is not refused, and the first 68 bytes are the line.
-pub written-again : (line : List ℕ) (r : Record) → readOf line ≡ Whole r → (buffer : List ℕ) → lineLength ≤ length buffer
-    → (writtenOf r buffer ≡ Done) × (take lineLength (bufferAfter r buffer) ≡ line)
+pub written-again : (line : List ℕ) → WritesBack line (readOf line)
 written-again line r e buffer h =
     let p = read-is line r e in
     let g = good line (p .0) in
@@ -159,22 +160,22 @@ tag-lt (Percent x) = omega arith
 tag-lt NothingFound = omega arith
 tag-lt Lost = omega arith
 
-held-bits : (r : Reading) → HeldReading r → taggedOf r .bits < 2 ^ 32
+typed-bits : (r : Reading) → TypedReading r → taggedOf r .bits < 2 ^ 32
 unfolding taggedOf
-held-bits (Percent x) h = toBits-lt binary32 x h
-held-bits NothingFound h = omega arith
-held-bits Lost h = omega arith
+typed-bits (Percent x) h = toBits-lt binary32 x h
+typed-bits NothingFound h = omega arith
+typed-bits Lost h = omega arith
 
-five-bytes : (x : Reading) → HeldReading x → (rest : List ℕ) → AreBytes rest → AreBytes (bytes5 (taggedOf x) ++ rest)
+five-bytes : (x : Reading) → TypedReading x → (rest : List ℕ) → AreBytes rest → AreBytes (bytes5 (taggedOf x) ++ rest)
 five-bytes x h rest A =
     let n = taggedOf x .bits in
-    (tag-lt x, (top-lt n (held-bits x h), (low-lt (n / 65536), (low-lt (n / 256), (low-lt n, A)))))
+    (tag-lt x, (top-lt n (typed-bits x h), (low-lt (n / 65536), (low-lt (n / 256), (low-lt n, A)))))
 
 pair-bytes : (n : ℕ) → n < 65536 → (rest : List ℕ) → AreBytes rest → AreBytes (bytes2 n ++ rest)
 pair-bytes n h rest A = (high-lt n h, (low-lt n, A))
 
-held-bytes : (r : Record) → Held r → AreBytes (bytesIn (fieldsOf r))
-held-bytes r h =
+typed-bytes : (r : Record) → Typed r → AreBytes (bytesIn (fieldsOf r))
+typed-bytes r h =
     let d = bytes5 (taggedOf (r .readings .salt)) in
     let c = bytes5 (taggedOf (r .readings .fat)) ++ d in
     let b = bytes5 (taggedOf (r .readings .protein)) ++ c in
@@ -189,9 +190,9 @@ held-bytes r h =
     (h .kind, (high-lt (r .year) (h .year), (low-lt (r .year), (h .month, (h .days, (h .product, M))))))
 
 -- Reading what was written returns the same record, bit for bit, for every record that the code can hold and that no row refuses.
-pub read-again : (r : Record) → Held r → firstRow (fieldRows (fieldsOf r)) ≡ 0 → readOf (lineOf r) ≡ Whole r
+pub read-again : (r : Record) → Typed r → firstRow (fieldRows (fieldsOf r)) ≡ 0 → readOf (lineOf r) ≡ Whole r
 read-again r h e =
-    let A = held-bytes r h in
+    let A = typed-bytes r h in
     let bytes : bytesOf (lineOf r) ≡ bytesIn (fieldsOf r) = bytes-digits (bytesIn (fieldsOf r)) A in
     let same : fieldsAt (lineOf r) ≡ fieldsOf r = ap fieldsIn bytes ∙ fields-in-again (fieldsOf r) in
     read-whole (lineOf r) (length-digitsOf (bytesIn (fieldsOf r))) (digitsOf-are (bytesIn (fieldsOf r)) A) (ap (λ (f : Fields). firstRow (fieldRows f)) same ∙ e)

@@ -1,25 +1,21 @@
 -- What it says of the fields that no row fits. Assumes nothing.
-use Prim.Native.Nat.{ℕ, suc, _%_, _^_, _≤_, _<_}
-use mathlib.Core.Path.{_≡_, refl, sym, _∙_, subst}
-use mathlib.Core.Bool.{Bool, true, false, cond, not, _&&_, _||_, false≢true}
+use Prim.Native.Nat.{ℕ, _%_, _^_, _≤_, _<_}
+use mathlib.Core.Path.{_≡_, sym, _∙_, subst}
+use mathlib.Core.Bool.{Bool, true, false, not, _&&_, _||_, false≢true}
 use native.Mathlib.Omega.{arith}
 use borrow.Author.Tests.{ltb-false, lt-ltb, le-ltb, leb-true, eq-eqb, eqb-true, not-false}
 use lib.Dec.{T, ltb, eqb}
 use lib.Ieee.{binary32, nanBits, ofBits}
 use lib.Ieee.Bits.{nanBits-above}
 use Rattle.laws.proofs.Bools.{or-neither}
+use Rattle.rows.specs.Rows.{firstRow}
+use Rattle.rows.proofs.RowsLaws.{passed}
 use Rattle.line.specs.Fields.{PERCENT, LOST}
 use Rattle.line.specs.Percent.{accepted}
-use Rattle.line.specs.Refused.{firstRow, fieldRows, kindRow, dateRow, productRow, meanRow, readingRow}
+use Rattle.line.specs.Refused.{fieldRows, kindRow, dateRow, productRow, meanRow, readingRow}
 use Rattle.line.specs.declared.fields.Fields.{Fields}
 use Rattle.line.specs.declared.fields.Tagged.{Tagged}
 use Rattle.line.proofs.PercentLaws.{accepted-pattern}
-
--- ---- the first row is 0 exactly where no row fits
-
-pub passed : (n : ℕ) (b : Bool) (rest : ℕ) → cond b (suc n) rest ≡ 0 → (b ≡ false) × (rest ≡ 0)
-passed n true rest e = absurd (omega arith)
-passed n false rest e = (refl, e)
 
 -- none of rows 3 to 7 fits
 pub record Clean (f : Fields) : Type 0 where
@@ -35,11 +31,11 @@ pub record Clean (f : Fields) : Type 0 where
 pub clean : (f : Fields) → firstRow (fieldRows f) ≡ 0 → Clean f
 unfolding firstRow
 clean f e =
-    let k = passed 2 _ _ e in
-    let d = passed 3 _ _ (k .1) in
-    let p = passed 4 _ _ (d .1) in
-    let m = passed 5 _ _ (p .1) in
-    let r = passed 6 _ _ (m .1) in
+    let k = passed _ _ _ e in
+    let d = passed _ _ _ (k .1) in
+    let p = passed _ _ _ (d .1) in
+    let m = passed _ _ _ (p .1) in
+    let r = passed _ _ _ (m .1) in
     let s = or-neither (readingRow (f .moisture) || readingRow (f .protein) || readingRow (f .fat)) (readingRow (f .salt)) (r .0) in
     let t = or-neither (readingRow (f .moisture) || readingRow (f .protein)) (readingRow (f .fat)) (s .0) in
     let q = or-neither (readingRow (f .moisture)) (readingRow (f .protein)) (t .0) in

@@ -13,34 +13,59 @@ lineLength = 68
 abbrev pub lineBytes : ℕ
 lineBytes = 34
 
--- 0 to 9 or a to f: 48 is the number of the character 0, and 97 that of a
+-- the characters 0, 9, a and f, by their numbers
+abbrev pub ZERO : ℕ
+ZERO = 48
+
+abbrev pub NINE : ℕ
+NINE = 57
+
+abbrev pub LETTER-A : ℕ
+LETTER-A = 97
+
+abbrev pub LETTER-F : ℕ
+LETTER-F = 102
+
+-- 0 to 9 or a to f
 unfoldable pub isDigit : ℕ → Bool
-isDigit c = (leb 48 c && leb c 57) || (leb 97 c && leb c 102)
+isDigit c = (leb ZERO c && leb c NINE) || (leb LETTER-A c && leb c LETTER-F)
 
 -- what a digit stands for
 unfoldable pub digitValue : ℕ → ℕ
-digitValue c = cond (leb c 57) (c - 48) (c - 87)
+digitValue c = cond (leb c NINE) (c - ZERO) (c - LETTER-A + 10)
+
+-- the byte that two digits write, by what they stand for
+abbrev pub byteOf : ℕ → ℕ → ℕ
+byteOf high low = 16 * high + low
 
 -- what two characters are: the byte that they write, or no two digits
 unfoldable pub byteIn : ℕ → ℕ → Hex
 unfolding isDigit digitValue
-byteIn high low = cond (isDigit high && isDigit low) (Value (16 * digitValue high + digitValue low)) Bad
+byteIn high low = cond (isDigit high && isDigit low) (Value (byteOf (digitValue high) (digitValue low))) Bad
 
 -- the digit that stands for a number below 16
 unfoldable pub digitOf : ℕ → ℕ
-digitOf n = cond (ltb n 10) (48 + n) (87 + n)
+digitOf n = cond (ltb n 10) (ZERO + n) (LETTER-A + (n - 10))
 
+-- the digits that write a byte
+abbrev pub highDigit : ℕ → ℕ
+highDigit b = digitOf (b / 16)
+
+abbrev pub lowDigit : ℕ → ℕ
+lowDigit b = digitOf (b % 16)
+
+-- whether each character is a digit
 unfoldable pub areDigits : List ℕ → Bool
 areDigits [] = true
 areDigits (c ∷ cs) = isDigit c && areDigits cs
 
--- the bytes that the digits write
+-- the bytes that digits write, two to a byte
 unfoldable pub bytesOf : List ℕ → List ℕ
 bytesOf [] = []
 bytesOf (c ∷ []) = []
-bytesOf (high ∷ low ∷ rest) = (16 * digitValue high + digitValue low) ∷ bytesOf rest
+bytesOf (high ∷ low ∷ rest) = byteOf (digitValue high) (digitValue low) ∷ bytesOf rest
 
--- the digits that write the bytes
+-- the digits that write bytes
 unfoldable pub digitsOf : List ℕ → List ℕ
 digitsOf [] = []
-digitsOf (b ∷ bs) = digitOf (b / 16) ∷ digitOf (b % 16) ∷ digitsOf bs
+digitsOf (b ∷ bs) = highDigit b ∷ lowDigit b ∷ digitsOf bs

@@ -5,4 +5,5 @@ pub mod Fields
 pub mod Refused
 pub mod Read
 pub mod Write
-pub mod Held
+pub mod Inverse
+pub mod bounds

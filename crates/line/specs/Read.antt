@@ -1,13 +1,13 @@
 -- What reading a line gives: document 01, "The line" and rows 1 to 7 of "Refused".
-use Prim.Native.Nat.{ℕ, zero, suc, _≤_, _<_}
-use mathlib.Core.Path.{_≡_}
-use mathlib.Core.Bool.{true, false, not}
+use Prim.Native.Nat.{ℕ, zero, suc}
+use mathlib.Core.Bool.{not}
 use mathlib.Core.List.{List, _∷_}
 use lib.Dec.{eqb}
 use lib.ListN.{length}
+use Rattle.rows.specs.Rows.{Row, firstRow, Given, no-row, a-row}
 use Rattle.line.specs.Digits.{lineLength, areDigits, bytesOf}
 use Rattle.line.specs.Fields.{fieldsIn, recordOf}
-use Rattle.line.specs.Refused.{Row, firstRow, rowFits, fieldRows, LENGTH, DIGIT}
+use Rattle.line.specs.Refused.{fieldRows, LENGTH, DIGIT}
 use Rattle.line.specs.declared.fields.Fields.{Fields}
 use Rattle.line.specs.declared.record.Record.{Record}
 use Rattle.line.specs.declared.record.Read.{Read}
@@ -33,8 +33,12 @@ unfoldable pub readOf : List ℕ → Read
 unfolding readBy firstRow
 readOf line = readBy (firstRow (lineRows line)) (recordOf (fieldsAt line))
 
--- What the order of the rows means, as a law of `readOf` that is proved: a line is read where no row fits. Else it is refused with one number,
--- that of a row that fits, and no row of a lower number does.
-abbrev pub Answered : List ℕ → Read → Type 0
-Answered line (Whole r) = (r ≡ recordOf (fieldsAt line)) × ((k : ℕ) → rowFits k (lineRows line) ≡ false)
-Answered line (Refused n) = (1 ≤ n) × (n ≤ 7) × (rowFits n (lineRows line) ≡ true) × ((k : ℕ) → k < n → rowFits k (lineRows line) ≡ false)
+-- what an answer gives of the table: no row for a record that was read, else the refusal's
+abbrev pub readRow : Read → Given
+readRow (Whole r) = no-row
+readRow (Refused n) = a-row n
+
+-- the number of an answer, 0 for a record that was read
+abbrev pub numberOf : Read → ℕ
+numberOf (Whole r) = 0
+numberOf (Refused n) = n

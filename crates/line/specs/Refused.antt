@@ -1,9 +1,11 @@
--- Document 01, "Refused": rows 1 to 7 and 13 of the table, each a test that is true where the row fits.
+-- Document 01, "Refused": the numbers of rows 1 to 7 and 13 of the table, and what rows 3 to 7 say of the fields, each a test that is true where
+-- the row fits. Rows 1 and 2 stand in Read, 13 in Write. Which row is given: `firstRow` of the crate `rows`.
 use Prim.Native.Nat.{ℕ, _/_, _%_}
-use mathlib.Core.Bool.{Bool, false, cond, not, _&&_, _||_}
+use mathlib.Core.Bool.{Bool, not, _&&_, _||_}
 use mathlib.Core.List.{List, [], _∷_}
 use lib.Dec.{ltb, eqb}
 use lib.Ieee.{binary32, ofBits}
+use Rattle.rows.specs.Rows.{Row}
 use Rattle.line.specs.Fields.{PERCENT, LOST}
 use Rattle.line.specs.Percent.{accepted}
 use Rattle.line.specs.declared.fields.Fields.{Fields}
@@ -34,21 +36,6 @@ READING = 7
 
 abbrev pub SHORT : ℕ
 SHORT = 13
-
--- a row of the table: its number, and whether it fits
-pub record Row : Type 0 where
-  pub number : ℕ
-  pub fits : Bool
-
--- The number of the first row that fits, or 0 where none does.
-unfoldable pub firstRow : List Row → ℕ
-firstRow [] = 0
-firstRow (r ∷ rows) = cond (r .fits) (r .number) (firstRow rows)
-
--- whether the row of a number fits
-unfoldable pub rowFits : ℕ → List Row → Bool
-rowFits n [] = false
-rowFits n (r ∷ rows) = (eqb (r .number) n && r .fits) || rowFits n rows
 
 -- the kinds of a line
 abbrev pub MAINTENANCE : ℕ
@@ -110,18 +97,12 @@ readingRow t =
     || (ltb PERCENT (t .tag) && not (eqb (t .bits) 0))
     || (eqb (t .tag) PERCENT && not (accepted (ofBits binary32 (t .bits))))
 
--- Rows 3 to 7 of the table, in its order, by whether each fits.
-abbrev pub rowsOf : Bool → Bool → Bool → Bool → Bool → List Row
-rowsOf kind date product mean reading =
-    record { number = KIND; fits = kind }
-    ∷ record { number = DATE; fits = date }
-    ∷ record { number = PRODUCT; fits = product }
-    ∷ record { number = MEAN; fits = mean }
-    ∷ record { number = READING; fits = reading }
-    ∷ []
-
--- Rows 3 to 7 for the fields of a line or of a record: one definition, for reading and for writing.
+-- Rows 3 to 7, in the table's order, for the fields of a line or of a record: one definition, for reading and for writing.
 abbrev pub fieldRows : Fields → List Row
 fieldRows f =
-    rowsOf (kindRow (f .kind)) (dateRow (f .year) (f .month)) (productRow (f .product)) (meanRow (f .product) (f .means))
-    (readingRow (f .moisture) || readingRow (f .protein) || readingRow (f .fat) || readingRow (f .salt))
+    record { number = KIND; fits = kindRow (f .kind) }
+    ∷ record { number = DATE; fits = dateRow (f .year) (f .month) }
+    ∷ record { number = PRODUCT; fits = productRow (f .product) }
+    ∷ record { number = MEAN; fits = meanRow (f .product) (f .means) }
+    ∷ record { number = READING; fits = readingRow (f .moisture) || readingRow (f .protein) || readingRow (f .fat) || readingRow (f .salt) }
+    ∷ []

@@ -1,11 +1,13 @@
 -- What writing a record into a lent buffer gives: document 01, "Refused", row 13 and the sentences on writing.
 use Prim.Native.Nat.{ℕ, zero, suc}
+use mathlib.Core.Path.{_≡_}
 use mathlib.Core.List.{List, _∷_, _++_}
 use lib.Dec.{ltb}
 use lib.ListN.{length, drop}
+use Rattle.rows.specs.Rows.{Row, firstRow, Given, no-row, a-row}
 use Rattle.line.specs.Digits.{lineLength, digitsOf}
 use Rattle.line.specs.Fields.{bytesIn, fieldsOf}
-use Rattle.line.specs.Refused.{Row, firstRow, fieldRows, SHORT}
+use Rattle.line.specs.Refused.{fieldRows, SHORT}
 use Rattle.line.specs.declared.record.Record.{Record}
 use Rattle.line.specs.declared.record.Written.{Written}
 use Rattle.line.specs.declared.record.Written.the-variants.{Done, Refused}
@@ -34,3 +36,12 @@ writtenOf r buffer = writtenBy (firstRow (writeRows r buffer))
 unfoldable pub bufferAfter : Record → List ℕ → List ℕ
 unfolding bufferBy firstRow
 bufferAfter r buffer = bufferBy (firstRow (writeRows r buffer)) r buffer
+
+-- what an answer gives of the table: no row where the line was written, else the refusal's
+abbrev pub writtenRow : Written → Given
+writtenRow Done = no-row
+writtenRow (Refused n) = a-row n
+
+-- a refusal leaves the buffer as it was
+abbrev pub BufferKept : List ℕ → List ℕ → Written → Type 0
+BufferKept entry exit answer = (n : ℕ) → answer ≡ Refused n → exit ≡ entry

@@ -3,9 +3,9 @@
 ghost use mathlib.Core.Path.{_≡_};
 ghost use mathlib.Core.Bool.{true};
 ghost use mathlib.Core.List.{_++_, map};
-ghost use Prim.Native.Nat.{_<_, _≤_, _/_, _%_};
+ghost use Prim.Native.Nat.{_<_, _≤_};
 ghost use lib.ListN.{length, drop};
-ghost use Rattle.line.specs.Digits.{lineLength, isDigit, digitValue, byteIn, digitOf, areDigits, bytesOf, digitsOf};
+ghost use Rattle.line.specs.Digits.{lineLength, isDigit, digitValue, byteOf, byteIn, digitOf, highDigit, lowDigit, areDigits, bytesOf, digitsOf};
 
 // How many digits a line has, and how many bytes they write.
 pub const DIGITS: usize = 68;
@@ -32,12 +32,20 @@ fn value_of(c: u8) -> u8
     if c <= b'9' { c - b'0' } else { c - b'a' + 10 }
 }
 
+// The byte that two digits write, by what they stand for.
+fn byte_of(high: u8, low: u8) -> u8
+    requires { ⌜ (high < 16) × (low < 16) ⌝ }
+    ensures { λ r. ⌜ r ≡ byteOf high low ⌝ }
+{
+    16 * high + low
+}
+
 pub fn byte_in(high: u8, low: u8) -> Hex
     ensures { λ r. ⌜ r ≡ byteIn high low ⌝ }
 {
     if is_digit(high) {
         if is_digit(low) {
-            return Hex::Value(16 * value_of(high) + value_of(low));
+            return Hex::Value(byte_of(value_of(high), value_of(low)));
         }
     }
     Hex::Bad
@@ -52,13 +60,13 @@ fn digit_of(n: u8) -> u8
 
 // The digits of a byte.
 pub fn high_digit(b: u8) -> u8
-    ensures { λ r. ⌜ r ≡ digitOf (b / 16) ⌝ }
+    ensures { λ r. ⌜ r ≡ highDigit b ⌝ }
 {
     digit_of(b >> 4)
 }
 
 pub fn low_digit(b: u8) -> u8
-    ensures { λ r. ⌜ r ≡ digitOf (b % 16) ⌝ }
+    ensures { λ r. ⌜ r ≡ lowDigit b ⌝ }
 {
     digit_of(b & 15)
 }
@@ -100,7 +108,7 @@ pub fn bytes_of(line: &[u8]) -> [u8; BYTES]
     let mut bytes = [0u8; BYTES];
     let mut i = 0;
     while i < BYTES {
-        bytes[i] = 16 * values[2 * i] + values[2 * i + 1];
+        bytes[i] = byte_of(values[2 * i], values[2 * i + 1]);
         i += 1;
     }
     bytes

@@ -11,10 +11,11 @@ ghost use mathlib.Core.Path.{_≡_};
 ghost use mathlib.Core.Bool.{false};
 ghost use Prim.Native.Nat.{_<_, _+_, _*_, _/_, _%_};
 ghost use lib.ListN.{set};
+ghost use Rattle.rows.specs.Rows.{firstRow};
 ghost use Rattle.line.specs.Digits.{lineBytes};
 ghost use Rattle.line.specs.Fields.{two, four, tagged, fieldsIn, bytesIn, readingOf, taggedOf, recordOf, fieldsOf};
-ghost use Rattle.line.specs.Held.{Held, HeldReading};
-ghost use Rattle.line.specs.Refused.{readingRow, firstRow, fieldRows};
+ghost use Rattle.line.specs.bounds.Types.{Typed, TypedReading};
+ghost use Rattle.line.specs.Refused.{readingRow, fieldRows};
 
 // The tags of a reading.
 pub const PERCENT: u8 = 0;
@@ -167,7 +168,7 @@ fn reading_of(t: Tagged) -> Reading
 // A reading's tag and number. A percent is a value of binary32, by its type.
 fn tagged_of(r: Reading) -> Tagged
     ensures tagged { λ t. ⌜ t ≡ taggedOf r ⌝ }
-    ensures held { λ t. ⌜ HeldReading r ⌝ }
+    ensures typed { λ t. ⌜ TypedReading r ⌝ }
 {
     match r {
         Reading::Percent(x) => Tagged {
@@ -208,7 +209,7 @@ pub fn record_of(f: Fields) -> Record
 // A record's fields. They are within their bounds, by their types.
 pub fn fields_of(r: Record) -> Fields
     ensures fields { λ f. ⌜ f ≡ fieldsOf r ⌝ }
-    ensures held { λ f. ⌜ Held r ⌝ }
+    ensures typed { λ f. ⌜ Typed r ⌝ }
 {
     let means = r.means;
     let readings = r.readings;

@@ -1,11 +1,11 @@
 // A line of a check sample: 68 digits read to a record, and a record written back as a line.
 
 mod digits;
+mod field_rows;
 mod fields;
 mod percent;
 pub mod record;
 pub mod refusal;
-mod rows;
 
 pub use digits::DIGITS;
 pub use digits::Hex;
@@ -15,6 +15,11 @@ use digits::bytes_of;
 pub use digits::high_digit;
 pub use digits::low_digit;
 use digits::put;
+pub use field_rows::LEAST_BEEF_FAT;
+pub use field_rows::LEAST_PROTEIN;
+pub use field_rows::MOST;
+use field_rows::first_row;
+pub use field_rows::product_row;
 use fields::bytes_in;
 use fields::fields_in;
 use fields::fields_of;
@@ -28,23 +33,20 @@ use record::Written;
 use refusal::DIGIT;
 use refusal::LENGTH;
 use refusal::SHORT;
-pub use rows::LEAST_BEEF_FAT;
-pub use rows::LEAST_PROTEIN;
-pub use rows::MOST;
-use rows::first_row;
-pub use rows::product_row;
 ghost use mathlib.Core.Path.{_≡_};
-ghost use lib.ListN.{take};
-ghost use Rattle.line.specs.Digits.{lineLength};
+ghost use Rattle.rows.specs.Rows.{Answers};
+ghost use Rattle.line.specs.Inverse.{WritesBack, ReadsBack};
 ghost use Rattle.line.specs.Percent.{amountOf};
-ghost use Rattle.line.specs.Read.{readOf};
-ghost use Rattle.line.specs.Write.{writtenOf, bufferAfter};
-ghost use Rattle.line.specs.declared.record.Read.the-variants.{Whole};
-ghost use Rattle.line.specs.declared.record.Written.the-variants.{Done};
+ghost use Rattle.line.specs.Read.{readOf, lineRows, readRow};
+ghost use Rattle.line.specs.Write.{writtenOf, bufferAfter, writeRows, writtenRow, BufferKept};
 
 // The record that a line holds, or the number of the first row that refuses it.
+// `whole`: the answer is the definition's. `back`: writing the record returns the line.
+// `first`: a line is refused exactly where a row fits, with the number of the first that does.
 pub fn read(line: &[u8]) -> Read
     ensures whole { λ r. ⌜ r ≡ readOf (now (line .entry)) ⌝ }
+    ensures back { λ r. ⌜ WritesBack (now (line .entry)) r ⌝ }
+    ensures first { λ r. ⌜ Answers (lineRows (now (line .entry))) (readRow r) ⌝ }
 {
     if line.len() != DIGITS {
         return Read::Refused(LENGTH);
@@ -62,10 +64,14 @@ pub fn read(line: &[u8]) -> Read
 
 // Puts the line of a record at the start of a buffer, or leaves the buffer alone and gives the
 // number of the first row that refuses.
+// `answer` and `bytes`: the answer and every byte of the buffer are the definitions'. `back`: reading
+// what was written returns the record. `kept`: a refusal changes no byte. `first`: as for `read`.
 pub fn write(record: Record, buffer: &mut [u8]) -> Written
     ensures answer { λ r. ⌜ r ≡ writtenOf «record» (now (buffer .entry)) ⌝ }
     ensures bytes { λ r. ⌜ now (buffer .exit) ≡ bufferAfter «record» (now (buffer .entry)) ⌝ }
-    ensures back { λ r. ⌜ (r ≡ Done → readOf (take lineLength (now (buffer .exit))) ≡ Whole «record») ⌝ }
+    ensures back { λ r. ⌜ ReadsBack «record» (now (buffer .exit)) r ⌝ }
+    ensures kept { λ r. ⌜ BufferKept (now (buffer .entry)) (now (buffer .exit)) r ⌝ }
+    ensures first { λ r. ⌜ Answers (writeRows «record» (now (buffer .entry))) (writtenRow r) ⌝ }
 {
     if buffer.len() < DIGITS {
         return Written::Refused(SHORT);

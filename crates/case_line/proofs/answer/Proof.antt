@@ -1,7 +1,7 @@
--- `answer` meets its contract: a refusal's number is at most 7, and a line that was read is written back. Assumes nothing.
+-- `answer` meets its contract: a refusal's number is printed, and a line that was read is written back. Assumes nothing.
 use mathlib.Core.Path.{sym, ap, _∙_}
 use Rattle.case_line.specs.Answer.{answerBy}
-use Rattle.case_line.proofs.AnswerLaws.{refused-most, put-line}
+use Rattle.case_line.proofs.AnswerLaws.{put-line}
 use borrow.Author.Needs.{needs}
 use Rattle.case_line.proofs.answer.Statement.{statement}
 use Rattle.case_line.proofs.answer.Tie as tie
@@ -13,7 +13,7 @@ enum-known-found : tie.Need-enum-known-found
 enum-known-found c = search needs
 
 put-refusal-requires : tie.Need-put-refusal-requires
-put-refusal-requires c κs = (refused-most _ _ (sym (c .before .before .before .before .read .ensures) ∙ c .before .before .found .given .1), search needs)
+put-refusal-requires c κs = search needs
 
 enum-known-found-2 : tie.Need-enum-known-found-2
 enum-known-found-2 c = search needs
@@ -31,13 +31,18 @@ same-length : tie.Need-same-length
 same-length c = search needs
 
 returns : tie.Need-returns
-returns c = (search needs, c .before .before .put-refusal .ensures .1 ∙ ap answerBy (sym (c .before .before .before .before .before .found .given .1) ∙ c .before .before .before .before .before .before .before .read .ensures))
+returns c =
+    let found = c .before .before .before .before .before in
+    (search needs, c .before .before .put-refusal .ensures .1 ∙ ap answerBy (sym (found .found .given .1) ∙ found .before .before .read .ensures .0))
 
 same-length-2 : tie.Need-same-length-2
 same-length-2 c = search needs
 
 returns-2 : tie.Need-returns-2
-returns-2 c = (search needs, put-line _ _ _ _ (sym (c .before .before .before .before .before .before .before .read .ensures) ∙ c .before .before .before .before .before .found2 .given .1) (c .before .before .write .ensures .1 .0) (search needs) (search needs))
+returns-2 c =
+    let found = c .before .before .before .before .before in
+    let whole = sym (found .before .before .read .ensures .0) ∙ found .found2 .given .1 in
+    (search needs, put-line _ _ _ _ whole (c .before .before .write .ensures .1 .0) (search needs) (search needs))
 
 pub answer-spec : {M : Type 1} → statement M
 answer-spec =

@@ -1,27 +1,53 @@
 -- `write` meets its contract: each return is a case of `writtenOf` and `bufferAfter`. Assumes nothing.
-use mathlib.Core.Path.{_≡_, sym, ap, _∙_}
+use mathlib.Core.Path.{_≡_, sym, ap, _∙_, subst}
 use mathlib.Core.List.{List, _++_}
 use Prim.Native.Nat.{ℕ}
 use lib.ListN.{take, drop}
 use lib.Seq.{take-at}
+use Rattle.rows.specs.Rows.{firstRow, Answers}
 use Rattle.line.specs.Digits.{lineLength, digitsOf}
 use Rattle.line.specs.Fields.{fieldsOf, bytesIn}
+use Rattle.line.specs.Inverse.{ReadsBack}
 use Rattle.line.specs.Read.{readOf}
-use Rattle.line.specs.Write.{lineOf}
-use Rattle.line.specs.Refused.{firstRow, fieldRows}
+use Rattle.line.specs.Write.{lineOf, writeRows, writtenOf, bufferAfter, writtenRow, BufferKept}
+use Rattle.line.specs.Refused.{fieldRows}
 use Rattle.line.specs.declared.fields.Fields.{Fields}
+use Rattle.line.specs.declared.record.Record.{Record}
+use Rattle.line.specs.declared.record.Written.{Written}
 use Rattle.line.proofs.ByteLaws.{length-digitsOf}
 use Rattle.line.proofs.Inverse.{read-again}
-use Rattle.line.proofs.WriteLaws.{kept-short, kept-row, done, refused-done}
+use Rattle.line.proofs.WriteLaws.{kept-short, kept-row, done, refused-done, write-first, write-kept}
 use borrow.Author.Needs.{needs}
 use Rattle.line.proofs.write.Statement.{statement}
 use Rattle.line.proofs.write.Tie as tie
+
+-- an answer and a buffer that are the definitions' keep every clause, where what was written reads back
+clauses : (r : Record) (buffer after : List ℕ) (w : Written) → w ≡ writtenOf r buffer → after ≡ bufferAfter r buffer → ReadsBack r after w
+    → (w ≡ writtenOf r buffer)
+    × ((after ≡ bufferAfter r buffer)
+    × (ReadsBack r after w × (BufferKept buffer after w × Answers (writeRows r buffer) (writtenRow w))))
+clauses r buffer after w e f back = (
+  e,
+  (
+    f,
+    (
+      back,
+      (
+        λ n q. f ∙ write-kept r buffer n (sym e ∙ q),
+        subst (λ (a : Written). Answers (writeRows r buffer) (writtenRow a)) (sym e) (write-first r buffer),
+      ),
+    ),
+  ),
+)
 
 row : (c : tie.After-first-row) → c .first-row .result ≡ firstRow (fieldRows (fieldsOf (c .before .before .before .before .args .«record»)))
 row c = c .first-row .ensures ∙ ap (λ (f : Fields). firstRow (fieldRows f)) (c .before .fields-of .ensures .0)
 
 returns : tie.Need-returns
-returns c = let k = kept-short (c .before .before .args .«record») (c .before .before .args .buffer .now) (c .if1 .taken) in (k .0, (k .1, λ e. refused-done _ _ e))
+returns c =
+    let start = c .before .before .args in
+    let k = kept-short (start .«record») (start .buffer .now) (c .if1 .taken) in
+    clauses _ _ _ _ (k .0) (k .1) (λ e. refused-done _ _ e)
 
 fields-of-requires : tie.Need-fields-of-requires
 fields-of-requires c κs = search needs
@@ -33,7 +59,7 @@ returns-2 : tie.Need-returns-2
 returns-2 c =
     let start = c .before .before .before .before .before .args in
     let k = kept-row (start .«record») (start .buffer .now) _ (c .before .before .before .if1 .left) (row (c .before)) (c .if2 .taken) in
-    (k .0, (k .1, λ e. refused-done _ _ e))
+    clauses _ _ _ _ (k .0) (k .1) (λ e. refused-done _ _ e)
 
 bytes-in-requires : tie.Need-bytes-in-requires
 bytes-in-requires c κs = search needs
@@ -50,13 +76,10 @@ returns-3 c =
     let start = at .before .before .before .before .args in
     let d = done (start .«record») (start .buffer .now) (at .before .before .if1 .left) (sym (row at) ∙ c .before .before .before .before .before .if2 .left) in
     let bytes = c .before .before .before .before .bytes-in .ensures ∙ ap bytesIn (at .before .fields-of .ensures .0) in
-    let after = c .before .before .put .ensures ∙ ap (λ (b : List ℕ). digitsOf b ++ drop lineLength (start .buffer .now)) bytes in (
-      d .0,
-      (
-        after ∙ d .1,
-        λ e. ap readOf (ap (take lineLength) after ∙ take-at (lineOf (start .«record»)) _ lineLength (length-digitsOf (bytesIn (fieldsOf (start .«record»))))) ∙ read-again (start .«record») (at .before .fields-of .ensures .1) (sym (row at) ∙ c .before .before .before .before .before .if2 .left),
-      ),
-    )
+    let after = c .before .before .put .ensures ∙ ap (λ (b : List ℕ). digitsOf b ++ drop lineLength (start .buffer .now)) bytes in
+    let first = take-at (lineOf (start .«record»)) _ lineLength (length-digitsOf (bytesIn (fieldsOf (start .«record»)))) in
+    let again = read-again (start .«record») (at .before .fields-of .ensures .1) (sym (row at) ∙ c .before .before .before .before .before .if2 .left) in
+    clauses _ _ _ _ (d .0) (after ∙ d .1) (λ e. ap readOf (ap (take lineLength) after ∙ first) ∙ again)
 
 pub write-spec : {M : Type 1} → statement M
 write-spec =

@@ -1,10 +1,9 @@
 -- `byte_in` meets its contract, by what `is_digit` says of each place. Assumes nothing.
 use borrow.Author.Needs.{needs}
-use mathlib.Core.Path.{_≡_, sym, ap₂, _∙_}
+use mathlib.Core.Path.{_≡_, sym, ap, ap₂, _∙_}
 use mathlib.Core.Bool.{true}
-use Prim.Native.Nat.{ℕ, _+_, _*_}
 use native.Mathlib.Omega.{arith}
-use Rattle.line.specs.Digits.{isDigit}
+use Rattle.line.specs.Digits.{isDigit, byteOf}
 use Rattle.line.specs.declared.digits.Hex.the-variants.{Value}
 use Rattle.line.proofs.DigitLaws.{high-bad, low-bad, both-good, value-lt}
 use Rattle.line.proofs.digits.byte_in.Statement.{statement}
@@ -25,19 +24,19 @@ is-digit-requires-2 c κs = search needs
 value-of-requires : tie.Need-value-of-requires
 value-of-requires c κs = high-is c
 
-mul-t6 : tie.Need-mul-t6
-mul-t6 c = omega (arith, c .value-of .ensures, value-lt _ (high-is (c .before)))
-
 value-of-requires-2 : tie.Need-value-of-requires-2
 value-of-requires-2 c κs = low-is (c .before)
 
-add-t8 : tie.Need-add-t8
-add-t8 c = omega (arith, c .before .value-of .ensures, c .value-of2 .ensures, value-lt _ (high-is (c .before .before)), value-lt _ (low-is (c .before .before)))
+byte-of-requires : tie.Need-byte-of-requires
+byte-of-requires c κs =
+    let at = c .before .before in
+    (omega (arith, c .before .value-of .ensures, value-lt _ (high-is at)), omega (arith, c .value-of2 .ensures, value-lt _ (low-is at)))
 
 returns : tie.Need-returns
 returns c =
-    ap₂ (λ (h l : ℕ). Value (16 * h + l)) (c .before .value-of .ensures) (c .value-of2 .ensures)
-    ∙ sym (both-good _ _ (high-is (c .before .before)) (low-is (c .before .before)))
+    let at = c .before .before .before in
+    ap Value (c .byte-of .ensures ∙ ap₂ byteOf (c .before .before .value-of .ensures) (c .before .value-of2 .ensures))
+    ∙ sym (both-good _ _ (high-is at) (low-is at))
 
 returns-2 : tie.Need-returns-2
 returns-2 c = sym (low-bad _ _ (sym (c .before .is-digit2 .ensures) ∙ c .if2 .left))
@@ -52,9 +51,8 @@ byte-in-spec =
     is-digit-requires
     is-digit-requires-2
     value-of-requires
-    mul-t6
     value-of-requires-2
-    add-t8
+    byte-of-requires
     returns
     returns-2
     returns-3)

@@ -1,11 +1,11 @@
 -- `bytes_of` meets its contract. The loop's invariant: the bytes below i stand at their places. Assumes nothing.
 use borrow.Author.Needs.{needs}
-use mathlib.Core.Path.{_≡_, refl, ap₂}
+use mathlib.Core.Path.{_≡_, refl, ap₂, _∙_}
 use native.Mathlib.Omega.{arith}
 use Prim.Native.Nat.{ℕ, _-_, _≤_, _<_, _*_, _+_}
 use denote.Ref.{now}
 use lib.ListN.{length, length-set, getD}
-use Rattle.line.specs.Digits.{lineLength, lineBytes, digitValue}
+use Rattle.line.specs.Digits.{lineLength, lineBytes, digitValue, byteOf}
 use Rattle.line.proofs.ByteLaws.{pairAt, value-at, value-at-lt, entry-more, bytes-are}
 use Rattle.line.proofs.digits.bytes_of.Statement.{statement}
 use Rattle.line.proofs.digits.bytes_of.Tie as tie
@@ -28,26 +28,23 @@ values-of-requires c κs = search needs
 loop-holds : tie.Need-loop-holds Inv-loop μ-loop
 loop-holds c = (search needs, refl, λ k p. absurd (omega arith))
 
-mul-bytes : tie.Need-mul-bytes Inv-loop μ-loop
-mul-bytes c = search needs
+mul-byte-of : tie.Need-mul-byte-of Inv-loop μ-loop
+mul-byte-of c = search needs
 
-array-read-bytes : tie.Need-array-read-bytes Inv-loop μ-loop
-array-read-bytes c = search needs
+array-read-byte-of : tie.Need-array-read-byte-of Inv-loop μ-loop
+array-read-byte-of c = search needs
 
-mul-bytes-2 : tie.Need-mul-bytes-2 Inv-loop μ-loop
-mul-bytes-2 c = omega (arith, below c (2 * c .before .loop .i) (omega arith))
+mul-byte-of-2 : tie.Need-mul-byte-of-2 Inv-loop μ-loop
+mul-byte-of-2 c = search needs
 
-mul-bytes-3 : tie.Need-mul-bytes-3 Inv-loop μ-loop
-mul-bytes-3 c = search needs
+add-byte-of : tie.Need-add-byte-of Inv-loop μ-loop
+add-byte-of c = search needs
 
-add-bytes : tie.Need-add-bytes Inv-loop μ-loop
-add-bytes c = search needs
+array-read-byte-of-2 : tie.Need-array-read-byte-of-2 Inv-loop μ-loop
+array-read-byte-of-2 c = search needs
 
-array-read-bytes-2 : tie.Need-array-read-bytes-2 Inv-loop μ-loop
-array-read-bytes-2 c = search needs
-
-add-bytes-2 : tie.Need-add-bytes-2 Inv-loop μ-loop
-add-bytes-2 c = omega (arith, below c (2 * c .before .loop .i) (omega arith), below c (2 * c .before .loop .i + 1) (omega arith))
+byte-of-requires : tie.Need-byte-of-requires Inv-loop μ-loop
+byte-of-requires c κs = let i = c .before .loop .i in (below c (2 * i) (omega arith), below c (2 * i + 1) (omega arith))
 
 array-write-bytes : tie.Need-array-write-bytes Inv-loop μ-loop
 array-write-bytes c = search needs
@@ -60,12 +57,13 @@ loop-less c = omega arith
 
 loop-again : tie.Need-loop-again Inv-loop μ-loop
 loop-again c =
-    let at = c .before .loop in
-    let line = now (c .before .before .before .before .args .line) in
-    let long = c .before .before .before .before .pre .0 in
-    let value : (k : ℕ) → k < length line → getD (c .before .before .values-of .result) k 0 ≡ digitValue (getD line k 0) =
-    λ k h. rw (c .before .before .values-of .ensures) (value-at line k h) in
-    let byte = ap₂ (λ (h l : ℕ). 16 * h + l) (value (2 * at .i) (omega arith)) (value (2 * at .i + 1) (omega arith)) in
+    let at = c .before .before .loop in
+    let values = c .before .before .before .values-of in
+    let start = c .before .before .before .before .before in
+    let line = now (start .args .line) in
+    let long = start .pre .0 in
+    let value : (k : ℕ) → k < length line → getD (values .result) k 0 ≡ digitValue (getD line k 0) = λ k h. rw (values .ensures) (value-at line k h) in
+    let byte = c .byte-of .ensures ∙ ap₂ byteOf (value (2 * at .i) (omega arith)) (value (2 * at .i + 1) (omega arith)) in
     (omega arith, simp length-set (at .inv .1), entry-more (pairAt line) (at .bytes) (at .i) _ (omega arith) (at .inv .2) byte)
 
 returns : tie.Need-returns Inv-loop μ-loop
@@ -81,13 +79,12 @@ bytes-of-spec =
     μ-loop
     values-of-requires
     loop-holds
-    mul-bytes
-    array-read-bytes
-    mul-bytes-2
-    mul-bytes-3
-    add-bytes
-    array-read-bytes-2
-    add-bytes-2
+    mul-byte-of
+    array-read-byte-of
+    mul-byte-of-2
+    add-byte-of
+    array-read-byte-of-2
+    byte-of-requires
     array-write-bytes
     add-i
     loop-less

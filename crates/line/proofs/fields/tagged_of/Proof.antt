@@ -2,7 +2,7 @@
 use mathlib.Core.Path.{sym, subst}
 use lib.Dec.{T}
 use Rattle.line.specs.Fields.{taggedOf}
-use Rattle.line.specs.Held.{HeldReading}
+use Rattle.line.specs.bounds.Types.{TypedReading}
 use borrow.Author.Needs.{needs}
 use Rattle.line.proofs.fields.tagged_of.Statement.{statement}
 use Rattle.line.proofs.fields.tagged_of.Tie as tie
@@ -21,15 +21,17 @@ enum-told-2 c = search needs
 
 returns : tie.Need-returns
 unfolding taggedOf
-returns c = (rw (c .before .before .r .given .1, c .bits-of .ensures), subst HeldReading (sym (c .before .before .r .given .1)) (subst T (sym (c .before .known-told .given .0 .1)) tt))
+returns c =
+    let is = c .before .before .r .given .1 in
+    (rw (is, c .bits-of .ensures), subst TypedReading (sym is) (subst T (sym (c .before .known-told .given .0 .1)) tt))
 
 returns-2 : tie.Need-returns-2
 unfolding taggedOf
-returns-2 c = (rw (c .enum-told .given .1), subst HeldReading (sym (c .enum-told .given .1)) tt)
+returns-2 c = (rw (c .enum-told .given .1), subst TypedReading (sym (c .enum-told .given .1)) tt)
 
 returns-3 : tie.Need-returns-3
 unfolding taggedOf
-returns-3 c = (rw (c .enum-told2 .given .1), subst HeldReading (sym (c .enum-told2 .given .1)) tt)
+returns-3 c = (rw (c .enum-told2 .given .1), subst TypedReading (sym (c .enum-told2 .given .1)) tt)
 
 pub tagged-of-spec : {M : Type 1} → statement M
 tagged-of-spec =

@@ -2,8 +2,8 @@
 use Prim.Native.Nat.{_/_}
 use lib.Bits.{and-mask}
 use Rattle.line.specs.Refused.{productRow}
-use Rattle.line.proofs.rows.product_row.Statement.{statement}
-use Rattle.line.proofs.rows.product_row.Tie as tie
+use Rattle.line.proofs.field_rows.product_row.Statement.{statement}
+use Rattle.line.proofs.field_rows.product_row.Tie as tie
 
 returns : tie.Need-returns
 unfolding productRow

@@ -2,8 +2,8 @@
 use borrow.Author.Needs.{needs}
 use Rattle.line.specs.Refused.{readingRow}
 use Rattle.line.proofs.PercentLaws.{accepted-pattern}
-use Rattle.line.proofs.rows.reading_row.Statement.{statement}
-use Rattle.line.proofs.rows.reading_row.Tie as tie
+use Rattle.line.proofs.field_rows.reading_row.Statement.{statement}
+use Rattle.line.proofs.field_rows.reading_row.Tie as tie
 
 returns : tie.Need-returns
 unfolding readingRow

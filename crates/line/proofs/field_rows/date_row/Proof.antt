@@ -1,8 +1,8 @@
 -- `date_row` computes the row's test. Assumes nothing.
 use mathlib.Core.Path.{refl}
 use Rattle.line.specs.Refused.{dateRow}
-use Rattle.line.proofs.rows.date_row.Statement.{statement}
-use Rattle.line.proofs.rows.date_row.Tie as tie
+use Rattle.line.proofs.field_rows.date_row.Statement.{statement}
+use Rattle.line.proofs.field_rows.date_row.Tie as tie
 
 returns : tie.Need-returns
 unfolding dateRow

@@ -1,8 +1,8 @@
 -- `mean_row` meets its contract: a mask of two bits is the remainder by 4. Assumes nothing.
 use lib.Bits.{and-mask}
 use Rattle.line.specs.Refused.{meanRow}
-use Rattle.line.proofs.rows.mean_row.Statement.{statement}
-use Rattle.line.proofs.rows.mean_row.Tie as tie
+use Rattle.line.proofs.field_rows.mean_row.Statement.{statement}
+use Rattle.line.proofs.field_rows.mean_row.Tie as tie
 
 returns : tie.Need-returns
 unfolding meanRow

@@ -13,8 +13,10 @@ use crate::refusal::KIND;
 use crate::refusal::MEAN;
 use crate::refusal::PRODUCT;
 use crate::refusal::READING;
+use rows::first_of;
 ghost use mathlib.Core.Path.{_≡_};
-ghost use Rattle.line.specs.Refused.{firstRow, rowsOf, fieldRows, kindRow, dateRow, productRow, meanRow, readingRow};
+ghost use Rattle.rows.specs.Rows.{firstRow};
+ghost use Rattle.line.specs.Refused.{fieldRows, kindRow, dateRow, productRow, meanRow, readingRow};
 
 // The highest mean: a hundred percent, in hundredths.
 pub const MOST: u16 = 10000;
@@ -60,41 +62,24 @@ fn reading_row(t: Tagged) -> bool
         | ((t.tag == PERCENT) & !(t.bits <= HUNDRED))
 }
 
-// The number of the first row that fits, or 0.
-fn first_of(kind: bool, date: bool, product: bool, mean: bool, reading: bool) -> u8
-    ensures { λ r. ⌜ r ≡ firstRow (rowsOf kind date product mean reading) ⌝ }
-{
-    if kind {
-        return KIND;
-    }
-    if date {
-        return DATE;
-    }
-    if product {
-        return PRODUCT;
-    }
-    if mean {
-        return MEAN;
-    }
-    if reading {
-        return READING;
-    }
-    0
-}
-
 // The first of rows 3 to 7 that fits the fields, or 0.
 pub fn first_row(f: Fields) -> u8
     ensures { λ r. ⌜ r ≡ firstRow (fieldRows f) ⌝ }
 {
+    let kind = kind_row(f.kind);
+    let date = date_row(f.year, f.month);
+    let product = product_row(f.product);
+    let mean = mean_row(f.product, f.means);
     let reading = reading_row(f.moisture)
         | reading_row(f.protein)
         | reading_row(f.fat)
         | reading_row(f.salt);
     first_of(
-        kind_row(f.kind),
-        date_row(f.year, f.month),
-        product_row(f.product),
-        mean_row(f.product, f.means),
+        [KIND, DATE, PRODUCT, MEAN, READING],
+        kind,
+        date,
+        product,
+        mean,
         reading,
     )
 }

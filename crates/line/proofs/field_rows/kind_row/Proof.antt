@@ -1,8 +1,8 @@
 -- `kind_row` computes the row's test. Assumes nothing.
 use mathlib.Core.Path.{refl}
 use Rattle.line.specs.Refused.{kindRow}
-use Rattle.line.proofs.rows.kind_row.Statement.{statement}
-use Rattle.line.proofs.rows.kind_row.Tie as tie
+use Rattle.line.proofs.field_rows.kind_row.Statement.{statement}
+use Rattle.line.proofs.field_rows.kind_row.Tie as tie
 
 returns : tie.Need-returns
 unfolding kindRow

@@ -1,0 +1,2 @@
+-- Laws of the first row that fits, cited by the crates above.
+pub mod RowsLaws
