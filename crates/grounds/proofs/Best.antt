@@ -57,7 +57,7 @@ raised-least z = omega (zarith, raised-dn z)
 at-first : (t : ℕ → ℤ) (x : ℤ) → t 1 ≡ x → Best 1 t x 1
 at-first t x e = record {
   least = λ h. absurd (omega arith);
-  run = λ h. record { one = omega arith; two = omega arith; order = omega arith; within = omega arith };
+  run = λ h. record { one = omega arith; not-two = omega arith; order = omega arith; within = omega arith };
   only = λ h. e;
   sums = λ h. e;
   highest = λ n r. (let q : n ≡ 1 = omega arith in rw (q, e) (≤ℤ-refl x));
@@ -71,7 +71,7 @@ at-second s t v x f e b =
     let was : s 1 ≡ v = rw start at (b .only refl) in
     record {
       least = λ h. raised-least (v +ℤ x);
-      run = λ h. record { one = omega arith; two = omega arith; order = omega arith; within = omega arith };
+      run = λ h. record { one = omega arith; not-two = omega arith; order = omega arith; within = omega arith };
       only = λ h. absurd (omega arith);
       sums = λ h. e ∙ keeps-equal (s 1) v x was h;
       highest = λ n r. (let q : n ≡ 1 = omega arith in rw (q, e) (keeps-below (s 1) v x (omega zarith)));
@@ -84,13 +84,13 @@ module _ (k : ℕ) (s t : ℕ → ℤ) (v x : ℤ) (f : ℕ) (later : 2 ≤ k) (
   below : (n : ℕ) → Run (suc k) n (suc k) → s n ≤ℤ v
   below n r = ⊎-elim
       (λ (e : n ≡ suc k). rw (e, fresh) (b .least later))
-      (λ (h : n < suc k). b .highest n (record { one = r .one; two = r .two; order = omega arith; within = omega arith }))
+      (λ (h : n < suc k). b .highest n (record { one = r .one; not-two = r .not-two; order = omega arith; within = omega arith }))
       (eq-or-lt-of-le (r .order))
 
   from : (z : Bool) → spent v ≡ z → Best (suc k) t (raised (v +ℤ x)) (cond z (suc k) f)
   from true e = record {
     least = λ h. raised-least (v +ℤ x);
-    run = λ h. record { one = omega arith; two = omega arith; order = omega arith; within = omega arith };
+    run = λ h. record { one = omega arith; not-two = omega arith; order = omega arith; within = omega arith };
     only = λ h. absurd (omega arith);
     sums = λ h. more (suc k) (omega arith) ∙ keeps-equal (s (suc k)) v x (fresh ∙ let q = b .least later in omega zarith) h;
     highest = λ n r. rw (more n (r .order)) (keeps-below (s n) v x (below n r));
@@ -98,13 +98,13 @@ module _ (k : ℕ) (s t : ℕ → ℤ) (v x : ℤ) (f : ℕ) (later : 2 ≤ k) (
   }
   from false e = record {
     least = λ h. raised-least (v +ℤ x);
-    run = λ h. (let r = b .run (omega arith) in record { one = r .one; two = r .two; order = omega arith; within = omega arith });
+    run = λ h. (let r = b .run (omega arith) in record { one = r .one; not-two = r .not-two; order = omega arith; within = omega arith });
     only = λ h. absurd (omega arith);
     sums = λ h. more f (omega (arith, b .run (omega arith))) ∙ keeps-equal (s f) v x (b .sums (omega zarith)) h;
     highest = λ n r. rw (more n (r .order)) (keeps-below (s n) v x (below n r));
     shortest = λ n r h q. let was : s n ≡ v = was-equal (s n) v x (sym (more n (r .order)) ∙ q) h in ⊎-elim
         (λ (i : n ≡ suc k). let none : s n ≡ pos 0 = rw i fresh in absurd (omega zarith))
-        (λ (i : n < suc k). b .shortest n (record { one = r .one; two = r .two; order = omega arith; within = omega arith }) (omega zarith) was)
+        (λ (i : n < suc k). b .shortest n (record { one = r .one; not-two = r .not-two; order = omega arith; within = omega arith }) (omega zarith) was)
         (eq-or-lt-of-le (r .order));
   }
 

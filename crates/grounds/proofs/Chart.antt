@@ -16,9 +16,9 @@ use lib.Signed.{_≤ℤ_, _<ℤ_}
 use Rattle.laws.proofs.Order.{zarith}
 use Rattle.laws.proofs.Gathered.{with-one-more}
 use Rattle.laws.proofs.Lists.{by-growth}
-use Rattle.grounds.specs.Chart.{nextValue, nextFirst, over}
-use Rattle.grounds.specs.Run.{valueFrom, firstFrom, valueAfter, firstAfter, Run, total, runSum, Above}
-use Rattle.grounds.specs.ChartLaw.{Shown, Quiet, ChartLaw}
+use Rattle.grounds.specs.Chart.{nextValue, nextFirst, over, valueFrom, firstFrom, valueAfter, firstAfter}
+use Rattle.grounds.specs.Run.{Run, total, runSum, Above}
+use Rattle.grounds.specs.ChartLaw.{Shown, Quiet, EveryChart}
 use Rattle.grounds.proofs.Best.{Best, none, next}
 
 -- ---- one more sample
@@ -96,13 +96,13 @@ module _ (limit : ℤ) (low : pos 0 ≤ℤ limit) where
       not-before : m < length xs → ⊥
       not-before h =
           let long : length (take m xs) ≡ m = length-take-le m xs (omega arith) in
-          let o = from-tail (take m xs) n (rw long (record { one = a .run .one; two = a .run .two; order = a .run .order; within = omega arith })) (a .above) in
+          let o = from-tail (take m xs) n (rw long (record { one = a .run .one; not-two = a .run .not-two; order = a .run .order; within = omega arith })) (a .above) in
           let z : true ≡ false = sym o ∙ quiet m h in
           subst T z tt
 
-  pub chart-law : (xs : List ℤ) → ChartLaw limit xs
-  chart-law xs = record {
-    over-is = (to-run xs, λ a. from-tail xs (a .0) (a .1 .run) (rw (tail-is xs (a .0)) at (a .1 .above)));
-    shown = shown xs;
-    last = last xs;
-  }
+pub chart-law : EveryChart
+chart-law limit low xs = record {
+  over-is = (to-run limit low xs, λ a. from-tail limit low xs (a .0) (a .1 .run) (rw (tail-is xs (a .0)) at (a .1 .above)));
+  shown = shown limit low xs;
+  last = last limit low xs;
+}

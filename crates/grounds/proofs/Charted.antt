@@ -14,10 +14,11 @@ use lib.Seq.{take-append-le}
 use lib.IntN.{ℤ, pos}
 use lib.Signed.{_≤ℤ_}
 use borrow.Author.Tests.{eqb-true, eqb-false}
-use Rattle.grounds.specs.Chart.{before, nextValue, nextFirst, over}
-use Rattle.grounds.specs.Run.{valueAfter, firstAfter, Above}
+use Rattle.grounds.specs.Chart.{nextValue, nextFirst, over, valueAfter, firstAfter}
+use Rattle.grounds.specs.Earlier.{before}
+use Rattle.grounds.specs.Run.{Above}
 use Rattle.grounds.specs.Entry.{Entry, missed, sample, stretch, onChart}
-use Rattle.grounds.specs.Claim.{RunOver}
+use Rattle.grounds.specs.Claim.{RunAbove}
 use Rattle.grounds.proofs.Entry.{stretch-missed, stretch-sample, stretch-other, chart-sample}
 use Rattle.grounds.proofs.Chart.{value-more, first-more, chart-law}
 
@@ -34,7 +35,7 @@ pub record Charted (K : ℕ) (limit : ℕ → ℤ) (es : List Entry) (s : Charts
   pub values : (c : ℕ) → c < K → s .value c ≡ valueAfter (onChart c (stretch (s .year) es))
   pub firsts : (c : ℕ) → c < K → s .first c ≡ firstAfter (onChart c (stretch (s .year) es))
   pub latest : (y : ℕ) → s .year < y → stretch y es ≡ []
-  pub only : (c y n m : ℕ) → c < K → RunOver limit es c y n m → (y ≡ s .year) × (m ≡ s .samples)
+  pub only : (c y n m : ℕ) → c < K → RunAbove limit es c y n m → (y ≡ s .year) × (m ≡ s .samples)
 
 -- how one sample moves the charts
 pub record Moved (K year : ℕ) (x : ℕ → ℤ) (s t : Charts) : Type 0 where
@@ -76,7 +77,7 @@ module _ (K : ℕ) (limit : ℕ → ℤ) (low : Low K limit) (es : List Entry) (
   number-on c = old .number ∙ sym (length-map (stretch (s .year) es) (λ (x : ℕ → ℤ). x c))
 
   -- a run above its limit makes its chart over
-  pub over-by-run : (c y n m : ℕ) → c < K → RunOver limit es c y n m → over (limit c) (s .value c) ≡ true
+  pub over-by-run : (c y n m : ℕ) → c < K → RunAbove limit es c y n m → over (limit c) (s .value c) ≡ true
   over-by-run c y n m h a =
       let e = old .only c y n m h a in
       let q : m ≡ length (onChart c (stretch (s .year) es)) = e .1 ∙ number-on c in
@@ -109,13 +110,13 @@ ready K limit es s old year order false e =
 -- a run that ends before the last sample was there before it
 earlier : (limit : ℤ) (xs : List ℤ) (z : ℤ) (n m : ℕ) → m ≤ length xs → Above limit (xs ++ z ∷ []) n m → Above limit xs n m
 earlier limit xs z n m h a = record {
-  run = record { one = a .run .one; two = a .run .two; order = a .run .order; within = h };
+  run = record { one = a .run .one; not-two = a .run .not-two; order = a .run .order; within = h };
   above = rw (take-append-le m xs (z ∷ [])) at (a .above);
 }
 
 module _ (K : ℕ) (limit : ℕ → ℤ) (low : Low K limit) (es : List Entry) (s : Charts) (old : Charted K limit es s)
     (quiet : (c : ℕ) → c < K → over (limit c) (s .value c) ≡ false) (year : ℕ) (x : ℕ → ℤ) (order : s .year ≤ year) (t : Charts) (moved : Moved K year x s t) where
-  no-run-before : (c y n m : ℕ) {A : Type 0} → c < K → RunOver limit es c y n m → A
+  no-run-before : (c y n m : ℕ) {A : Type 0} → c < K → RunAbove limit es c y n m → A
   no-run-before c y n m h a = absurd (let e : true ≡ false = sym (over-by-run K limit low es s old c y n m h a) ∙ quiet c h in subst T e tt)
 
   start : Ready K (before year (s .year) (s .samples)) year es s
@@ -124,7 +125,7 @@ module _ (K : ℕ) (limit : ℕ → ℤ) (low : Low K limit) (es : List Entry) (
   number : t .samples ≡ suc (length (stretch year es))
   number = moved .number ∙ ap suc (start .number)
 
-  ends-last : (b : Bool) (c y n m : ℕ) → eqb year y ≡ b → c < K → RunOver limit (es ++ sample year x ∷ []) c y n m → (y ≡ t .year) × (m ≡ t .samples)
+  ends-last : (b : Bool) (c y n m : ℕ) → eqb year y ≡ b → c < K → RunAbove limit (es ++ sample year x ∷ []) c y n m → (y ≡ t .year) × (m ≡ t .samples)
   ends-last true c y n m e h a =
       let q : year ≡ y = eqb-true year y e in
       let xs = onChart c (stretch year es) in

@@ -9,8 +9,8 @@ use lib.ListN.{length}
 use lib.IntN.{ℤ}
 use lib.Signed.{ltZ, _≤ℤ_, _<ℤ_}
 use Rattle.laws.proofs.Order.{zarith}
-use Rattle.grounds.specs.Chart.{over}
-use Rattle.grounds.specs.Run.{valueAfter, firstAfter, runSum}
+use Rattle.grounds.specs.Chart.{over, valueAfter, firstAfter}
+use Rattle.grounds.specs.Run.{runSum}
 use Rattle.grounds.specs.Entry.{Entry, misses, stretch, onChart}
 use Rattle.grounds.specs.Claim.{TwoMisses, SomeRun, RightRun, Grounds, Claim}
 use Rattle.grounds.proofs.Chart.{chart-law}
@@ -38,7 +38,7 @@ module _ (K : ℕ) (limit : ℕ → ℤ) (low : Low K limit) (es : List Entry) (
   some-run c h o =
       let xs = onChart c (stretch (s .year) es) in
       let a = chart-law (limit c) (low c h) xs .over-is .0 (over-after c h o) in
-      record { year = s .year; first = a .0; last = length xs; over = a .1 }
+      record { year = s .year; first = a .0; last = length xs; above = a .1 }
 
   right-run : (c : ℕ) → c < K → over (limit c) (s .value c) ≡ true → RightRun K limit es c (s .first c) (s .samples) (s .value c)
   right-run c h o =
@@ -48,7 +48,7 @@ module _ (K : ℕ) (limit : ℕ → ℤ) (low : Low K limit) (es : List Entry) (
       let number = number-on K limit low es s old c in
       rw (old .firsts c h, number, old .values c h) (record {
         year = s .year;
-        over = record { run = best .run; above = rw (best .sums) (omega zarith) };
+        above = record { run = best .run; above = rw (best .sums) (omega zarith) };
         sum = best .sums;
         only = λ k y n m i a. (let e = old .only k y n m i a in (e .0, e .1 ∙ number));
         best = λ n a. lower-or-same (ltZ (runSum xs n (length xs)) (valueAfter xs)) (runSum xs n (length xs)) (valueAfter xs) n (firstAfter xs) refl
@@ -72,5 +72,5 @@ module _ (K : ℕ) (limit : ℕ → ℤ) (low : Low K limit) (es : List Entry) (
       charts : (c : ℕ) → c < K → (shown .over c ≡ true ↔ SomeRun limit es c)
       charts c h = (
         λ o. some-run c h (sym (shows .over-is c h) ∙ o),
-        λ r. shows .over-is c h ∙ over-by-run K limit low es s old c (r .year) (r .first) (r .last) h (r .over),
+        λ r. shows .over-is c h ∙ over-by-run K limit low es s old c (r .year) (r .first) (r .last) h (r .above),
       )

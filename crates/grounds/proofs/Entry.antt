@@ -7,7 +7,7 @@ use Prim.Native.Nat.{ℕ}
 use lib.Dec.{eqb}
 use lib.IntN.{ℤ}
 use borrow.Author.Tests.{eq-eqb, ne-eqb}
-use Rattle.grounds.specs.Entry.{Entry, missed, sample, misses, stretch, onChart}
+use Rattle.grounds.specs.Entry.{Entry, missed, sample, misses, stretch, onChart, years}
 
 misses-append : (es fs : List Entry) → misses (es ++ fs) ≡ misses es ++ misses fs
 misses-append [] fs = refl
@@ -23,9 +23,17 @@ stretch-append y [] fs = refl
 stretch-append y (missed m ∷ es) fs = stretch-append y es fs
 stretch-append y (sample k x ∷ es) fs = ap (λ (xs : List (ℕ → ℤ)). cond (eqb k y) (x ∷ xs) xs) (stretch-append y es fs) ∙ cond-append (eqb k y) x (stretch y es) (stretch y fs)
 
+years-append : (es fs : List Entry) → years (es ++ fs) ≡ years es ++ years fs
+years-append [] fs = refl
+years-append (missed m ∷ es) fs = years-append es fs
+years-append (sample y x ∷ es) fs = ap (λ (ys : List ℕ). y ∷ ys) (years-append es fs)
+
 module _ (es : List Entry) (m : ℕ) where
   pub misses-missed : misses (es ++ missed m ∷ []) ≡ misses es ++ m ∷ []
   misses-missed = misses-append es (missed m ∷ [])
+
+  pub years-missed : years (es ++ missed m ∷ []) ≡ years es
+  years-missed = years-append es (missed m ∷ []) ∙ append-nil (years es)
 
   pub stretch-missed : (y : ℕ) → stretch y (es ++ missed m ∷ []) ≡ stretch y es
   stretch-missed y = stretch-append y es (missed m ∷ []) ∙ append-nil (stretch y es)
@@ -33,6 +41,9 @@ module _ (es : List Entry) (m : ℕ) where
 module _ (es : List Entry) (k : ℕ) (x : ℕ → ℤ) where
   pub misses-sample : misses (es ++ sample k x ∷ []) ≡ misses es
   misses-sample = misses-append es (sample k x ∷ []) ∙ append-nil (misses es)
+
+  pub years-sample : years (es ++ sample k x ∷ []) ≡ years es ++ k ∷ []
+  years-sample = years-append es (sample k x ∷ [])
 
   pub stretch-sample : stretch k (es ++ sample k x ∷ []) ≡ stretch k es ++ x ∷ []
   stretch-sample = stretch-append k es (sample k x ∷ []) ∙ ap (λ (b : Bool). stretch k es ++ cond b (x ∷ []) []) (eq-eqb k k refl)

@@ -2,6 +2,7 @@
 pub mod Best
 pub mod Chart
 pub mod Entry
+pub mod Years
 pub mod Missed
 pub mod Charted
 pub mod Claim

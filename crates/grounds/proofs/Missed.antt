@@ -14,7 +14,8 @@ use lib.Seq.{getD-append-seam}
 use lib.IntN.{ℤ}
 use borrow.Author.Tests.{leb-true, le-leb}
 use Rattle.grounds.specs.Entry.{Entry, missed, sample, misses}
-use Rattle.grounds.specs.Miss.{window, TwoNear, again}
+use Rattle.grounds.specs.Earlier.{again}
+use Rattle.grounds.specs.Miss.{window, TwoNear}
 use Rattle.grounds.proofs.Entry.{misses-missed, misses-sample}
 
 -- the state is that of the months of the misses

@@ -1,15 +1,15 @@
 -- Document 01, "Stretch and run" and acceptance (d): what a chart's value and first sample have to do with the stretch's runs. The law is
--- stated once, over any contributions and any limit.
+-- stated once, over any contributions and any limit that is at least 0.
 use mathlib.Core.Path.{_≡_}
 use mathlib.Core.Bool.{true, false}
 use mathlib.Core.Logic.{_↔_}
 use mathlib.Core.List.{List}
 use Prim.Native.Nat.{ℕ, _≤_, _<_}
 use lib.ListN.{length, take}
-use lib.IntN.{ℤ}
+use lib.IntN.{ℤ, pos}
 use lib.Signed.{_≤ℤ_}
-use Rattle.grounds.specs.Chart.{over}
-use Rattle.grounds.specs.Run.{valueAfter, firstAfter, Run, runSum, Above}
+use Rattle.grounds.specs.Chart.{over, valueAfter, firstAfter}
+use Rattle.grounds.specs.Run.{Run, runSum, Above}
 
 -- the run shown: it ends at the last sample, and it is the shortest of those with the highest sum
 pub record Shown (xs : List ℤ) (first : ℕ) (value : ℤ) : Type 0 where
@@ -29,3 +29,7 @@ pub record ChartLaw (limit : ℤ) (xs : List ℤ) : Type 0 where
   pub shown : over limit (valueAfter xs) ≡ true → Shown xs (firstAfter xs) (valueAfter xs)
   -- and every run above the limit ends at the last sample, unless the chart was over before
   pub last : Quiet limit xs → (n m : ℕ) → Above limit xs n m → m ≡ length xs
+
+-- The law of every chart, proved as `chart-law` of proofs/Chart. A limit below 0 would be exceeded by the value 0, which need be no run's sum.
+abbrev pub EveryChart : Type 0
+EveryChart = (limit : ℤ) → pos 0 ≤ℤ limit → (xs : List ℤ) → ChartLaw limit xs

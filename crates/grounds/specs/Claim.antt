@@ -19,26 +19,26 @@ abbrev pub sumOf : List Entry → ℕ → ℕ → ℕ → ℕ → ℤ
 sumOf es c y n m = runSum (onChart c (stretch y es)) n m
 
 -- those samples are a run that sums above the chart's limit
-abbrev pub RunOver : (ℕ → ℤ) → List Entry → ℕ → ℕ → ℕ → ℕ → Type 0
-RunOver limit es c y n m = Above (limit c) (onChart c (stretch y es)) n m
+abbrev pub RunAbove : (ℕ → ℤ) → List Entry → ℕ → ℕ → ℕ → ℕ → Type 0
+RunAbove limit es c y n m = Above (limit c) (onChart c (stretch y es)) n m
 
 -- there is such a run on chart c
 pub record SomeRun (limit : ℕ → ℤ) (es : List Entry) (c : ℕ) : Type 0 where
   pub year : ℕ
   pub first : ℕ
   pub last : ℕ
-  pub over : RunOver limit es c year first last
+  pub above : RunAbove limit es c year first last
 
 -- the run shown for chart c
 pub record RightRun (K : ℕ) (limit : ℕ → ℤ) (es : List Entry) (c first last : ℕ) (value : ℤ) : Type 0 where
   pub year : ℕ
   -- is one such run, and the sum shown is its sum
-  pub over : RunOver limit es c year first last
+  pub above : RunAbove limit es c year first last
   pub sum : sumOf es c year first last ≡ value
   -- every such run, on any chart, ends at the same sample
-  pub only : (k y n m : ℕ) → k < K → RunOver limit es k y n m → (y ≡ year) × (m ≡ last)
+  pub only : (k y n m : ℕ) → k < K → RunAbove limit es k y n m → (y ≡ year) × (m ≡ last)
   -- and on this chart sums lower, or the same and is this run or a longer one
-  pub best : (n : ℕ) → RunOver limit es c year n last → (sumOf es c year n last <ℤ value) ⊎ ((sumOf es c year n last ≡ value) × (n ≤ first))
+  pub best : (n : ℕ) → RunAbove limit es c year n last → (sumOf es c year n last <ℤ value) ⊎ ((sumOf es c year n last ≡ value) × (n ≤ first))
 
 -- what is named and shown: whether probation was opened, whether misses are named, and of each chart whether it is named, and its run and sum
 pub record Grounds : Type 0 where

@@ -1,11 +1,13 @@
 -- Document 01, "Stretch and run": what demand 3 reads off the accepted maintenance lines since admission, in the order given.
 use mathlib.Core.Bool.{cond}
 use mathlib.Core.List.{List, [], _∷_, map}
-use Prim.Native.Nat.{ℕ}
+use Prim.Native.Nat.{ℕ, _≤_, _<_}
 use lib.Dec.{eqb}
 use lib.IntN.{ℤ}
+use lib.ListN.{length, getD}
 
--- A line is missed, which leaves its month (12 × year + month), or a sample, which leaves its year and its contribution to each chart by number.
+-- A line is missed, which leaves its month (12 × year + month), or a sample, which leaves its year and its contribution to each chart by number: the
+-- regulation's increment of that CUSUM.
 pub data Entry : Type 0 where
   missed : (month : ℕ) → Entry
   sample : (year : ℕ) (contribution : ℕ → ℤ) → Entry
@@ -16,7 +18,8 @@ misses [] = []
 misses (missed month ∷ es) = month ∷ misses es
 misses (sample year contribution ∷ es) = misses es
 
--- A stretch, as document 01 coins it: the samples of one calendar year, missed ones aside.
+-- A stretch, which document 01 coins: the samples of one calendar year, missed ones aside. The document opens a new one where the year differs from the
+-- last sample's; that is the same while the samples' years never fall, which is a law of the unit (`YearsNeverFall` of its specs/Since).
 abbrev pub stretch : ℕ → List Entry → List (ℕ → ℤ)
 stretch y [] = []
 stretch y (missed month ∷ es) = stretch y es
@@ -25,3 +28,13 @@ stretch y (sample year contribution ∷ es) = cond (eqb year y) (contribution �
 -- the samples' contributions to chart c
 abbrev pub onChart : ℕ → List (ℕ → ℤ) → List ℤ
 onChart c samples = map (λ (contribution : ℕ → ℤ). contribution c) samples
+
+-- the samples' years
+abbrev pub years : List Entry → List ℕ
+years [] = []
+years (missed month ∷ es) = years es
+years (sample year contribution ∷ es) = year ∷ years es
+
+-- no number of the list is below one before it
+abbrev pub NeverFall : List ℕ → Type 0
+NeverFall ns = (i j : ℕ) → i ≤ j → j < length ns → getD ns i 0 ≤ getD ns j 0

@@ -4,4 +4,5 @@ pub mod Run
 pub mod ChartLaw
 pub mod Entry
 pub mod Miss
+pub mod Earlier
 pub mod Claim

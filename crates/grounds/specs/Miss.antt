@@ -1,8 +1,6 @@
 -- Document 01, "Stages": a missed line at most 11 months after an earlier miss since admission. A month is 12 × year + month.
-use mathlib.Core.Bool.{Bool}
 use mathlib.Core.List.{List}
 use Prim.Native.Nat.{ℕ, _+_, _≤_, _<_, min, max}
-use lib.Dec.{leb}
 use lib.ListN.{length, getD}
 
 abbrev pub window : ℕ
@@ -19,7 +17,3 @@ pub record TwoNear (months : List ℕ) : Type 0 where
   pub different : one < other
   pub within : other < length months
   pub near : Near (getD months one 0) (getD months other 0)
-
--- this miss is that near to the last one before it; 0 stands for none, and no month is near to that
-abbrev pub again : ℕ → ℕ → Bool
-again last month = leb month (last + window)

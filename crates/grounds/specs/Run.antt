@@ -1,33 +1,16 @@
--- Document 01, "Stretch and run": the chart after a whole stretch, and the runs of the stretch. A stretch is here the list of its contributions
--- to one chart, in the order given; samples are numbered from 1.
+-- Document 01, "Stretch and run": the runs of a stretch. A stretch is here the list of its contributions to one chart, in the order given; samples
+-- are numbered from 1.
 use mathlib.Core.Logic.{_≢_}
 use mathlib.Core.List.{List, [], _∷_}
-use Prim.Native.Nat.{ℕ, suc, _-_, _≤_}
+use Prim.Native.Nat.{ℕ, _-_, _≤_}
 use lib.ListN.{length, take, drop}
 use lib.IntN.{ℤ, pos, _+ℤ_}
 use lib.Signed.{_<ℤ_}
-use Rattle.grounds.specs.Chart.{nextValue, nextFirst}
-
--- a chart's value, and the first sample of its run, after further contributions
-abbrev pub valueFrom : ℕ → ℤ → List ℤ → ℤ
-valueFrom before value [] = value
-valueFrom before value (x ∷ xs) = valueFrom (suc before) (nextValue before value x) xs
-
-abbrev pub firstFrom : ℕ → ℤ → ℕ → List ℤ → ℕ
-firstFrom before value first [] = first
-firstFrom before value first (x ∷ xs) = firstFrom (suc before) (nextValue before value x) (nextFirst before value first) xs
-
--- the same from the start of the stretch
-abbrev pub valueAfter : List ℤ → ℤ
-valueAfter xs = valueFrom 0 (pos 0) xs
-
-abbrev pub firstAfter : List ℤ → ℕ
-firstAfter xs = firstFrom 0 (pos 0) 0 xs
 
 -- A run, as document 01 coins it: of a stretch's samples, those numbered n to m, n being 1 or at least 3.
 pub record Run (samples n m : ℕ) : Type 0 where
   pub one : 1 ≤ n
-  pub two : n ≢ 2
+  pub not-two : n ≢ 2
   pub order : n ≤ m
   pub within : m ≤ samples
 
