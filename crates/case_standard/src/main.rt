@@ -7,7 +7,7 @@ use libc::STDOUT_FILENO;
 use line::Hex;
 use line::byte_in;
 use line::refusal::DIGIT;
-use unit::standardize::Row;
+use unit::standardize::Figures;
 use unit::standardize::Standardized;
 use unit::standardize::standardize;
 ghost use mathlib.Core.Path.{_≡_};
@@ -69,7 +69,7 @@ fn print_after(z: i32) {
     }
 }
 
-fn print_row(r: Row) {
+fn print_figures(r: Figures) {
     io::print_decimal(STDOUT_FILENO, r.value as u64);
     print_after(r.difference);
     print_after(r.p);
@@ -86,7 +86,7 @@ fn print_answer(row: &[u8])
             io::write_all(STDOUT_FILENO, b"refused ");
             io::print_decimal(STDOUT_FILENO, number as u64);
         }
-        Standardized::Given(r) => print_row(r),
+        Standardized::Given(r) => print_figures(r),
     }
     io::write_all(STDOUT_FILENO, b"\n");
 }

@@ -6,8 +6,7 @@ use mathlib.Core.List.{List, [], _∷_, _++_}
 use lib.Ieee.{binary32, ofBits}
 use lib.IntN.{ℤ, pos, negℤ}
 use lib.ListN.{length, replicate}
-use Rattle.grounds.specs.Chart.{nextValue, nextFirst, over}
-use Rattle.grounds.specs.Run.{valueAfter, firstAfter}
+use Rattle.grounds.specs.Chart.{nextValue, nextFirst, over, valueAfter, firstAfter}
 use Rattle.line.specs.Percent.{accepted, hundredthsOf}
 use Rattle.line.specs.Refused.{readingRow}
 use Rattle.unit.specs.Contribution.{food, limitOf, incrementOf, variableOf, measureOf, contributionsOf}

@@ -6,18 +6,23 @@ use mathlib.Core.Bool.{Bool, true, false, true≢false}
 use mathlib.Core.Logic.{_⊎_}
 use mathlib.Core.List.{List, [], _∷_, _++_, map}
 use lib.Dec.{lit<}
-use lib.Ieee.{ofBits}
+use lib.Ieee.{ofBits, toBits}
 use lib.IntN.{pos, negℤ}
 use lib.ListN.{replicate}
 use Rattle.grounds.specs.Chart.{nextValue, nextFirst}
 use Rattle.grounds.specs.Claim.{TwoMisses, SomeRun, RightRun}
 use Rattle.grounds.specs.Entry.{Entry, misses, stretch, onChart}
 use Rattle.line.specs.Digits.{isDigit, digitValue, digitOf, areDigits, bytesOf, digitsOf}
-use Rattle.line.specs.Fields.{PERCENT, LOST, bytesIn, readingOf}
+use Rattle.line.specs.Fields.{PERCENT, LOST, bytesIn, readingOf, taggedOf, recordOf}
 use Rattle.line.specs.Percent.{accepted, hundredthsOf, amountOf}
-use Rattle.line.specs.Read.{readBy, readOf}
-use Rattle.line.specs.Refused.{firstRow, kindRow, dateRow, productRow, meanRow, readingRow, MAINTENANCE, STUDY}
+use Rattle.line.specs.Read.{fieldsAt, readBy, readOf}
+use Rattle.rows.specs.Rows.{firstRow}
+use Rattle.line.specs.Refused.{kindRow, dateRow, productRow, meanRow, readingRow, MAINTENANCE, STUDY}
+use Rattle.line.specs.Write.{writtenBy, bufferBy, writtenOf, bufferAfter}
 use Rattle.line.specs.declared.fields.Tagged.{Tagged}
+use Rattle.line.specs.declared.record.Record.{Record}
+use Rattle.line.specs.declared.record.Read.the-variants.{Whole}
+use Rattle.line.specs.declared.record.Written.the-variants.{Done, Refused as Unwritten}
 use Rattle.unit.specs.Claim.{history, since, openedIn, CHARTS, limit, entriesOf, shownAt, ClaimOf}
 use Rattle.unit.specs.Contribution.{incrementOf, variableOf, measureOf}
 use Rattle.unit.specs.Difference.{fat, salt, coefficientFor}
@@ -25,7 +30,8 @@ use Rattle.unit.specs.Largest.{rootFrom}
 use Rattle.unit.specs.Reached.{replay}
 use Rattle.unit.specs.Status.{statusOf}
 use Rattle.unit.specs.Study.{passesOf}
-use Rattle.unit.specs.Take.{recordOf, takenOf}
+use Rattle.unit.specs.Take.{newUnit, takenRecord, takenOf}
+use Rattle.unit.specs.declared.event.Event.the-variants.{Refused, UnderWay}
 use Rattle.unit.proofs.Claimed.{claim-holds}
 
 -- ---- the lines
@@ -48,8 +54,8 @@ lost = record { tag = LOST; bits = 0 }
 
 -- A line of class 2 by its kind, year, month, days and reading of moisture. The means are 60.00, 18.00, 15.00 and 2.00 percent, and so are the
 -- other readings.
-abbrev pub lineOf : ℕ → ℕ → ℕ → ℕ → Tagged → List ℕ
-lineOf kind year month days moisture = digitsOf (bytesIn (record {
+abbrev pub lineWith : ℕ → ℕ → ℕ → ℕ → Tagged → List ℕ
+lineWith kind year month days moisture = digitsOf (bytesIn (record {
   kind = kind;
   year = year;
   month = month;
@@ -64,14 +70,14 @@ lineOf kind year month days moisture = digitsOf (bytesIn (record {
 
 -- document 01's own line
 abbrev pub study : List ℕ
-study = lineOf STUDY 2012 3 10 atMean
+study = lineWith STUDY 2012 3 10 atMean
 
 abbrev pub studySet : List (List ℕ)
 studySet = replicate 36 study
 
 -- samples of 2013, one in each of the months
 abbrev pub samples : List ℕ → Tagged → List (List ℕ)
-samples months moisture = map (λ (m : ℕ). lineOf MAINTENANCE 2013 m 10 moisture) months
+samples months moisture = map (λ (m : ℕ). lineWith MAINTENANCE 2013 m 10 moisture) months
 
 -- ---- the lists
 
@@ -82,10 +88,10 @@ byRun = studySet ++ (samples (1 ∷ []) below ++ samples (2 ∷ 3 ∷ 4 ∷ 5 �
 -- a sample; a result after 22 days in November 2012; a sample of 2013; and a lost reading in February
 abbrev pub byMisses : List (List ℕ)
 byMisses = studySet
-    ++ (lineOf MAINTENANCE 2012 10 10 atMean
-    ∷ lineOf MAINTENANCE 2012 11 22 atMean
-    ∷ lineOf MAINTENANCE 2013 1 10 atMean
-    ∷ lineOf MAINTENANCE 2013 2 10 lost
+    ++ (lineWith MAINTENANCE 2012 10 10 atMean
+    ∷ lineWith MAINTENANCE 2012 11 22 atMean
+    ∷ lineWith MAINTENANCE 2013 1 10 atMean
+    ∷ lineWith MAINTENANCE 2013 2 10 lost
     ∷ [])
 
 -- a year at the mean
@@ -107,6 +113,10 @@ pub record Status (ls : List (List ℕ)) (stage samples mask : ℕ) (misses : Bo
   pub mask-is : statusOf (replay ls) .mask ≡ mask
   pub misses-are : statusOf (replay ls) .misses ≡ misses
 
+-- the record of document 01's own line
+abbrev pub recorded : Record
+recorded = recordOf (fieldsAt study)
+
 -- ---- what holds of them
 
 pub record Witness : Type 0 where
@@ -114,10 +124,17 @@ pub record Witness : Type 0 where
   pub line-is : study
       ≡ digitsOf
       (0x02 ∷ 0x07 ∷ 0xdc ∷ 0x03 ∷ 0x0a ∷ 0x02 ∷ 0x17 ∷ 0x70 ∷ 0x07 ∷ 0x08 ∷ 0x05 ∷ 0xdc ∷ 0x00 ∷ 0xc8 ∷ 0x00 ∷ 0x42 ∷ 0x70 ∷ 0x00 ∷ 0x00 ∷ 0x00 ∷ 0x41 ∷ 0x90 ∷ 0x00 ∷ 0x00 ∷ 0x00 ∷ 0x41 ∷ 0x70 ∷ 0x00 ∷ 0x00 ∷ 0x00 ∷ 0x40 ∷ 0x00 ∷ 0x00 ∷ 0x00 ∷ [])
+  -- A line of two digits is refused 1, and the unit is as it was; document 01's own line reads, and is the first of its set.
+  pub line-refused : takenOf newUnit (48 ∷ 48 ∷ []) ≡ record { event = Refused 1; unit = newUnit }
+  pub line-read : readOf study ≡ Whole recorded
+  pub line-taken : takenOf newUnit study .event ≡ UnderWay 1
+  -- Its record is refused 13 by a buffer that is short, which is as it was; in a longer one the line stands again, and the rest is as it was.
+  pub write-refused : (writtenOf recorded (7 ∷ []) ≡ Unwritten 13) × (bufferAfter recorded (7 ∷ []) ≡ 7 ∷ [])
+  pub write-done : (writtenOf recorded (replicate 70 7) ≡ Done) × (bufferAfter recorded (replicate 70 7) ≡ study ++ 7 ∷ 7 ∷ [])
   -- Probation is opened, chart 0 (P of moisture) alone is named, and run 3 to 8 is shown with its sum.
   pub run-opened : opened byRun ≡ true
   pub run-status : Status byRun 3 8 1 false
-  pub run-row : shownAt (statusOf (replay byRun)) 0 ≡ record { over = true; first = 3; last = 8; value = pos 60 }
+  pub run-shown : shownAt (statusOf (replay byRun)) 0 ≡ record { over = true; first = 3; last = 8; value = pos 60 }
   -- the samples' contributions to that chart
   pub run-samples : onChart 0 (stretch 2013 (entries byRun)) ≡ negℤ (pos 20) ∷ replicate 7 (pos 10)
   -- so, by the claim, there is a run over the limit, and the one shown is right
@@ -139,12 +156,17 @@ claim-of : (ls : List (List ℕ)) → ClaimOf ls (statusOf (replay ls))
 claim-of ls = claim-holds ls (replay ls) refl
 
 pub witness : Witness
-unfolding isDigit digitValue digitOf areDigits bytesOf digitsOf readingOf accepted hundredthsOf amountOf readBy readOf firstRow kindRow dateRow productRow meanRow readingRow nextValue nextFirst incrementOf variableOf measureOf fat salt coefficientFor rootFrom statusOf passesOf recordOf takenOf ofBits
+unfolding isDigit digitValue digitOf areDigits bytesOf digitsOf readingOf taggedOf toBits writtenBy bufferBy writtenOf bufferAfter accepted hundredthsOf amountOf readBy readOf firstRow kindRow dateRow productRow meanRow readingRow nextValue nextFirst incrementOf variableOf measureOf fat salt coefficientFor rootFrom statusOf passesOf takenRecord takenOf ofBits
 witness = record {
   line-is = refl;
+  line-refused = refl;
+  line-read = refl;
+  line-taken = refl;
+  write-refused = (refl, refl);
+  write-done = (refl, refl);
   run-opened = refl;
   run-status = record { stage-is = refl; samples-are = refl; mask-is = refl; misses-are = refl };
-  run-row = refl;
+  run-shown = refl;
   run-samples = refl;
   run-exists = claim-of byRun .charts 0 (lit< tt) .0 refl;
   run-right = claim-of byRun .runs 0 (lit< tt) refl;

@@ -11,7 +11,7 @@ use Rattle.laws.proofs.Cond.{cases}
 use Rattle.laws.proofs.Order.{minus, canon}
 use Rattle.laws.proofs.Word.{abs, abs-neg, abs-minus}
 use Rattle.unit.specs.declared.contribution.Systematic.{Systematic}
-use Rattle.unit.specs.Bounds.{LARGEST, Moderate, AllModerate}
+use Rattle.unit.specs.bounds.Numbers.{LARGEST, Moderate, AllModerate}
 use Rattle.unit.specs.Difference.{CAP, nearest, sizeOf, differenceOf}
 use Rattle.unit.specs.Contribution.{incrementOf, contributionsOf, larger, variableOf, measureOf, deviantOf}
 

@@ -10,7 +10,7 @@ use lib.ListN.{getD}
 use Rattle.laws.proofs.Table.{at}
 use Rattle.unit.specs.declared.coefficient.Power.the-variants.{Q}
 use Rattle.line.specs.Refused.{MOST, classOf}
-use Rattle.unit.specs.Difference.{_times_, fat, salt, coefficientFor}
+use Rattle.unit.specs.Difference.{_with_, fat, salt, coefficientFor}
 
 unfoldable pub coefficients : List ℕ
 coefficients = 500 ∷ 60 ∷ 300 ∷ 127 ∷ 710 ∷ 60 ∷ 350 ∷ 127 ∷ 570 ∷ 60 ∷ 300 ∷ 127 ∷ 570 ∷ 60 ∷ 300 ∷ 127 ∷ []
@@ -40,4 +40,4 @@ entry product analyte h =
 
 pub other-fat : (class : ℕ) → eqb class 1 ≡ false → highest class 2 ≡ 300
 unfolding coefficientFor fat
-other-fat class e = ap (λ (t : Bool). cond t (350 times Q) (300 times Q) .thousandths) e
+other-fat class e = ap (λ (t : Bool). cond t (350 with Q) (300 with Q) .thousandths) e

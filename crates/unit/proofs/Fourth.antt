@@ -9,9 +9,8 @@ use mir.Syntax.{w64}
 use mir.Val.{Fits}
 use mir.Facts.{fits-le, fits-lit}
 use Rattle.line.specs.Refused.{MOST}
-use Rattle.unit.specs.Largest.{IsRoot}
-use Rattle.unit.specs.Difference.{rooted, rootOf}
-use Rattle.unit.proofs.Largest.{right, positive}
+use Rattle.unit.specs.Difference.{rooted, rootOf, RootIsLargest}
+use Rattle.unit.proofs.Largest.{IsRoot, largest, right, positive}
 
 square : (x : ℕ) → x ^ 2 ≡ x * x
 square x = pow-suc x 1 ∙ ap (λ (n : ℕ). n * x) (pow-suc x 0 ∙ ap (λ (n : ℕ). n * x) (pow-zero x) ∙ one-mul x)
@@ -41,6 +40,9 @@ root-small m q h k =
 
 pub root-right : (m : ℕ) → m ≤ MOST → IsRoot 4 (rooted m) (rootOf m)
 root-right m h = right 15 4 (rooted m) zero-le (lt-of-le-of-lt (mul-le-mul-right (10 ^ 14) h) (lit< tt))
+
+pub largest-root : RootIsLargest
+largest-root m h = largest (root-right m h)
 
 pub root-positive : (m : ℕ) → 1 ≤ m → m ≤ MOST → 1 ≤ rootOf m
 root-positive m h l = positive 4 (rooted m) (rootOf m) (lit≤ tt) (omega arith) (root-right m l)

@@ -16,7 +16,7 @@ use Rattle.line.specs.declared.record.Means.{Means}
 use Rattle.line.specs.declared.record.Read.the-variants.{Whole}
 use Rattle.line.proofs.RowLaws.{Clean}
 use Rattle.line.proofs.Whole.{whole-clean}
-use Rattle.unit.specs.Good.{GoodRecord, GoodMean}
+use Rattle.unit.specs.bounds.Records.{GoodRecord, GoodMean}
 use Rattle.unit.specs.Standardize.{badMean}
 use Rattle.unit.proofs.MeanLaws.{mean-rows, good-mean}
 

@@ -8,41 +8,46 @@ use mathlib.Core.List.{List, [], _∷_, _++_, append-nil, append-assoc}
 use native.Mathlib.Omega.{arith}
 use borrow.Author.Tests.{ltb-false, eq-eqb, eqb-true, eqb-false, not-false}
 use lib.Dec.{eqb}
-use Rattle.grounds.specs.Entry.{Entry, misses, missed as aMiss, sample}
-use Rattle.grounds.specs.Miss.{again, window}
+use Rattle.grounds.specs.Entry.{Entry, misses, missed as aMiss, sample, years}
+use Rattle.grounds.specs.Earlier.{again}
+use Rattle.grounds.specs.Miss.{window}
 use Rattle.grounds.proofs.Charted as G
+use Rattle.grounds.proofs.Entry.{years-missed, years-sample}
+use Rattle.grounds.proofs.Years.{Ordered, ordered-none, ordered-more}
 use Rattle.grounds.proofs.Missed.{Missed, missed-none, missed-missed, missed-sample}
-use Rattle.laws.proofs.Below.{below}
 use Rattle.laws.proofs.Bools.{or-neither, and-fails}
 use Rattle.laws.proofs.Gathered.{with-one-more}
 use Rattle.line.specs.Read.{readOf}
-use Rattle.line.specs.Refused.{firstRow, MAINTENANCE, STUDY}
+use Rattle.rows.specs.Rows.{firstRow}
+use Rattle.line.specs.Refused.{MAINTENANCE, STUDY}
 use Rattle.line.specs.declared.record.Record.{Record}
 use Rattle.line.specs.declared.record.Read.{Read}
 use Rattle.line.specs.declared.record.Read.the-variants.{Whole, Refused as Unread}
-use Rattle.unit.specs.Claim.{Step, isPassed, isRefused, opens, openedIn, CHARTS, limit, contribution, entryBy, entryOf, entryIn, entriesOf}
-use Rattle.unit.specs.Good.{GoodRecord}
-use Rattle.unit.specs.Sample.{monthOf, missed, differencesOf}
+use Rattle.unit.specs.Claim.{Step, isAdmission, isAccepted, opens, openedIn, CHARTS, limit, contributionTo, entryBy, entryOf, entryIn, entriesOf}
+use Rattle.unit.specs.bounds.Records.{GoodRecord}
+use Rattle.unit.specs.Sample.{monthOf, missed, differencesOf, contributedBy}
 use Rattle.unit.specs.Set.{enteredOf, passesSet}
 use Rattle.unit.specs.Study.{SET}
 use Rattle.unit.specs.Stretch.{noSamples, sampledOf, anyOver}
-use Rattle.unit.specs.Take.{SECOND, ACCREDITED, PROBATION, CLOSED, noMisses, failedStage, unitRows, missedBy, sampleBy, judgedBy, studyBy, acceptedBy, recordBy, recordOf, readBy, takenOf}
+use Rattle.unit.specs.Take.{SECOND, ACCREDITED, PROBATION, CLOSED, noMisses, failedStage, unitRows, missedBy, sampleBy, judgedBy, studyBy, acceptedBy, takenByRow, takenRecord, takenRead, takenOf}
 use Rattle.unit.specs.declared.Unit as U
+use Rattle.unit.specs.declared.chart.Chart.{Chart}
 use Rattle.unit.specs.declared.event.Event.{Event}
 use Rattle.unit.specs.declared.event.Event.the-variants.{Refused, Sample, Missed as MissedLine, UnderWay, Failed, ByCharts, ByMisses}
 use Rattle.unit.specs.declared.set.Set.{Set}
 use Rattle.unit.specs.declared.stretch.Stretch.{Stretch}
 use Rattle.unit.proofs.GoodLaws.{good-record}
 use Rattle.unit.proofs.Taking.{Open, is-open}
-use Rattle.unit.proofs.View.{view, moves, low, quiet}
+use Rattle.unit.proofs.View.{view, empty-at, moves, low, quiet}
 
 -- a ground stands
 abbrev pub ground : U.Unit → Bool
-ground u = u .misses .two || anyOver (u .stretch)
+ground u = u .misses .opened || anyOver (u .stretch)
 
 pub record Kept (u : U.Unit) (h : List Step) : Type 0 where
   pub charted : G.Charted CHARTS limit (entriesOf h) (view (u .stretch))
-  pub missed-kept : Missed (misses (entriesOf h)) (u .misses .last) (u .misses .two)
+  pub missed-kept : Missed (misses (entriesOf h)) (u .misses .last) (u .misses .opened)
+  pub ordered : Ordered (years (entriesOf h)) (u .stretch .year)
   pub opened : openedIn h ≡ ground u
   pub calm : u .stage ≡ ACCREDITED → ground u ≡ false
   pub year : 12 * u .stretch .year ≤ u .month - 1
@@ -65,8 +70,9 @@ idle : (u v : U.Unit) (h : List Step) (x : Step) → entryIn x ≡ [] → opens 
 idle u v h x e o s m a n k = record {
   charted = rw (no-entry h x e, s) (k .charted);
   missed-kept = rw (no-entry h x e, m) (k .missed-kept);
-  opened = opened-more h x ∙ ap₂ (λ (p q : Bool). p || q) (k .opened) o ∙ or-false (ground u) ∙ sym (ap₂ (λ p q. p .two || anyOver q) m s);
-  calm = λ z. ap₂ (λ p q. p .two || anyOver q) m s ∙ k .calm (a z);
+  ordered = rw (no-entry h x e, s) (k .ordered);
+  opened = opened-more h x ∙ ap₂ (λ (p q : Bool). p || q) (k .opened) o ∙ or-false (ground u) ∙ sym (ap₂ (λ p q. p .opened || anyOver q) m s);
+  calm = λ z. ap₂ (λ p q. p .opened || anyOver q) m s ∙ k .calm (a z);
   year = rw s (omega (arith, k .year));
   miss = rw m (omega (arith, k .miss));
 }
@@ -75,10 +81,11 @@ idle u v h x e o s m a n k = record {
 
 pub fresh : (u : U.Unit) → u .stretch ≡ noSamples → u .misses ≡ noMisses → Kept u []
 fresh u s m = record {
-  charted = rw s (G.charted-none CHARTS limit (view noSamples) refl (below CHARTS _ (refl, (refl, (refl, (refl, (refl, (refl, (refl, (refl, (refl, (refl, (refl, (refl, (refl, (refl, (refl, (refl, tt))))))))))))))))) (below CHARTS _ (refl, (refl, (refl, (refl, (refl, (refl, (refl, (refl, (refl, (refl, (refl, (refl, (refl, (refl, (refl, (refl, tt))))))))))))))))));
+  charted = rw s (G.charted-none CHARTS limit (view noSamples) refl (λ c h. ap (λ (k : Chart). k .value) (empty-at c h)) (λ c h. ap (λ (k : Chart). k .first) (empty-at c h)));
   missed-kept = rw m missed-none;
-  opened = sym (ap₂ (λ p q. p .two || anyOver q) m s);
-  calm = λ _. ap₂ (λ p q. p .two || anyOver q) m s;
+  ordered = rw s (ordered-none 0);
+  opened = sym (ap₂ (λ p q. p .opened || anyOver q) m s);
+  calm = λ _. ap₂ (λ p q. p .opened || anyOver q) m s;
   year = rw s (omega arith);
   miss = rw m (omega arith);
 }
@@ -86,7 +93,7 @@ fresh u s m = record {
 -- ---- an accepted maintenance line: the unit is accredited, so no ground stands
 
 record Calm (u : U.Unit) : Type 0 where
-  two : u .misses .two ≡ false
+  unopened : u .misses .opened ≡ false
   over : anyOver (u .stretch) ≡ false
 
 stage-is : (u : U.Unit) (r : Record) → Open u r → r .kind ≡ MAINTENANCE → u .stage ≡ ACCREDITED
@@ -95,16 +102,16 @@ stage-is u r o k =
     eqb-true (u .stage) ACCREDITED (not-false _ (and-fails (eqb (r .kind) MAINTENANCE) (not (eqb (u .stage) ACCREDITED)) (eq-eqb (r .kind) MAINTENANCE k) (p .0)))
 
 calm-in : (u : U.Unit) (h : List Step) → Kept u h → u .stage ≡ ACCREDITED → Calm u
-calm-in u h k a = let p = or-neither (u .misses .two) (anyOver (u .stretch)) (k .calm a) in record { two = p .0; over = p .1 }
+calm-in u h k a = let p = or-neither (u .misses .opened) (anyOver (u .stretch)) (k .calm a) in record { unopened = p .0; over = p .1 }
 
 not-before : (u : U.Unit) (r : Record) → Open u r → u .month ≤ monthOf r
 not-before u r o = ltb-false (monthOf r) (u .month) (o .backdated)
 
 -- the step of an accepted line with an event that is not a refusal
-entry-at : (line : List ℕ) (r : Record) (e : Event) → readOf line ≡ Whole r → isRefused e ≡ false → r .kind ≡ MAINTENANCE → (b : Bool) → missed r ≡ b
+entry-at : (line : List ℕ) (r : Record) (e : Event) → readOf line ≡ Whole r → isAccepted e ≡ true → r .kind ≡ MAINTENANCE → (b : Bool) → missed r ≡ b
     → entryIn (record { line = line; event = e }) ≡ entryBy b r ∷ []
 entry-at line r e w n k b m =
-    ap₂ (λ (p : Bool) (a : Read). cond p [] (entryOf a)) n w
+    ap₂ (λ (p : Bool) (a : Read). cond p (entryOf a) []) n w
     ∙ ap (λ (p : Bool). cond p (entryBy (missed r) r ∷ []) []) (eq-eqb (r .kind) MAINTENANCE k)
     ∙ ap (λ (p : Bool). entryBy p r ∷ []) m
 
@@ -123,7 +130,8 @@ missed-step true u h line r a w g o k m K =
     let n = not-before u r o in
     record {
       charted = rw es (G.charted-missed CHARTS limit (entriesOf h) (view (u .stretch)) (monthOf r) (K .charted));
-      missed-kept = rw es (rw a at (missed-missed (entriesOf h) (u .misses .last) (monthOf r) (rw (c .two) at (K .missed-kept)) (omega (arith, K .miss)) (real r g)));
+      missed-kept = rw es (rw a at (missed-missed (entriesOf h) (u .misses .last) (monthOf r) (rw (c .unopened) at (K .missed-kept)) (omega (arith, K .miss)) (real r g)));
+      ordered = rw (es, years-missed (entriesOf h) (monthOf r)) (K .ordered);
       opened = opened-more h x ∙ or-true (openedIn h);
       calm = λ (z : PROBATION ≡ ACCREDITED). absurd (omega arith);
       year = omega (arith, K .year);
@@ -136,7 +144,8 @@ missed-step false u h line r a w g o k m K =
     let n = not-before u r o in
     record {
       charted = rw es (G.charted-missed CHARTS limit (entriesOf h) (view (u .stretch)) (monthOf r) (K .charted));
-      missed-kept = rw (es, c .two) (rw a at (missed-missed (entriesOf h) (u .misses .last) (monthOf r) (rw (c .two) at (K .missed-kept)) (omega (arith, K .miss)) (real r g)));
+      missed-kept = rw (es, c .unopened) (rw a at (missed-missed (entriesOf h) (u .misses .last) (monthOf r) (rw (c .unopened) at (K .missed-kept)) (omega (arith, K .miss)) (real r g)));
+      ordered = rw (es, years-missed (entriesOf h) (monthOf r)) (K .ordered);
       opened = opened-more h x ∙ or-false (openedIn h) ∙ K .opened;
       calm = λ z. K .calm z;
       year = omega (arith, K .year);
@@ -147,19 +156,25 @@ later-year : (u : U.Unit) (h : List Step) (r : Record) → Kept u h → GoodReco
 later-year u h r K g n = omega (arith, K .year, g .december)
 
 -- the charts after a sample t
-charted-more : (u : U.Unit) (h : List Step) (x : Step) (r : Record) (t : Stretch) → t ≡ sampledOf (u .stretch) (r .year) (differencesOf r) → GoodRecord r → Open u r → r .kind ≡ MAINTENANCE
-    → entryIn x ≡ sample (r .year) (contribution r) ∷ [] → Kept u h → G.Charted CHARTS limit (entriesOf (h ++ x ∷ [])) (view t)
+charted-more : (u : U.Unit) (h : List Step) (x : Step) (r : Record) (t : Stretch) → t ≡ sampledOf (u .stretch) (r .year) (contributedBy r) → GoodRecord r → Open u r → r .kind ≡ MAINTENANCE
+    → entryIn x ≡ sample (r .year) (contributionTo (contributedBy r)) ∷ [] → Kept u h → G.Charted CHARTS limit (entriesOf (h ++ x ∷ [])) (view t)
 charted-more u h x r t e g o k n K =
     let c = calm-in u h K (stage-is u r o k) in
-    rw (one-entry h x (sample (r .year) (contribution r)) n)
-    (G.charted-sample CHARTS limit low (entriesOf h) (view (u .stretch)) (K .charted) (quiet (u .stretch) (c .over)) (r .year) (contribution r) (later-year u h r K g (not-before u r o)) (view t)
-    (subst (λ (s : Stretch). G.Moved CHARTS (r .year) (contribution r) (view (u .stretch)) (view s)) (sym e) (moves (u .stretch) (r .year) (differencesOf r))))
+    rw (one-entry h x (sample (r .year) (contributionTo (contributedBy r))) n)
+    (G.charted-sample CHARTS limit low (entriesOf h) (view (u .stretch)) (K .charted) (quiet (u .stretch) (c .over)) (r .year) (contributionTo (contributedBy r)) (later-year u h r K g (not-before u r o)) (view t)
+    (subst (λ (s : Stretch). G.Moved CHARTS (r .year) (contributionTo (contributedBy r)) (view (u .stretch)) (view s)) (sym e) (moves (u .stretch) (r .year) (contributedBy r))))
 
-missed-less : (h : List Step) (x : Step) (r : Record) (last : ℕ) (two : Bool) → entryIn x ≡ sample (r .year) (contribution r) ∷ [] → Missed (misses (entriesOf h)) last two
+missed-less : (h : List Step) (x : Step) (r : Record) (last : ℕ) (two : Bool) → entryIn x ≡ sample (r .year) (contributionTo (contributedBy r)) ∷ [] → Missed (misses (entriesOf h)) last two
     → Missed (misses (entriesOf (h ++ x ∷ []))) last two
-missed-less h x r last two n m = rw (one-entry h x (sample (r .year) (contribution r)) n) (missed-sample (entriesOf h) last two (r .year) (contribution r) m)
+missed-less h x r last two n m = rw (one-entry h x (sample (r .year) (contributionTo (contributedBy r))) n) (missed-sample (entriesOf h) last two (r .year) (contributionTo (contributedBy r)) m)
 
-sample-step : (b : Bool) (u : U.Unit) (h : List Step) (line : List ℕ) (r : Record) (t : Stretch) → t ≡ sampledOf (u .stretch) (r .year) (differencesOf r) → anyOver t ≡ b → readOf line ≡ Whole r
+ordered-sample : (u : U.Unit) (h : List Step) (x : Step) (r : Record) (t : Stretch) → t ≡ sampledOf (u .stretch) (r .year) (contributedBy r) → GoodRecord r → Open u r
+    → entryIn x ≡ sample (r .year) (contributionTo (contributedBy r)) ∷ [] → Kept u h → Ordered (years (entriesOf (h ++ x ∷ []))) (t .year)
+ordered-sample u h x r t e g o n K =
+    rw (e, one-entry h x (sample (r .year) (contributionTo (contributedBy r))) n, years-sample (entriesOf h) (r .year) (contributionTo (contributedBy r)))
+    (ordered-more (years (entriesOf h)) (u .stretch .year) (r .year) (K .ordered) (later-year u h r K g (not-before u r o)))
+
+sample-step : (b : Bool) (u : U.Unit) (h : List Step) (line : List ℕ) (r : Record) (t : Stretch) → t ≡ sampledOf (u .stretch) (r .year) (contributedBy r) → anyOver t ≡ b → readOf line ≡ Whole r
     → GoodRecord r → Open u r → r .kind ≡ MAINTENANCE → missed r ≡ false → Kept u h
     → Kept (sampleBy b u (monthOf r) t .unit) (h ++ record { line = line; event = sampleBy b u (monthOf r) t .event } ∷ [])
 sample-step true u h line r t e a w g o k m K =
@@ -168,8 +183,9 @@ sample-step true u h line r t e a w g o k m K =
     let n = not-before u r o in
     record {
       charted = charted-more u h x r t e g o k en K;
-      missed-kept = missed-less h x r (u .misses .last) (u .misses .two) en (K .missed-kept);
-      opened = opened-more h x ∙ or-true (openedIn h) ∙ sym (ap (λ (b : Bool). u .misses .two || b) a ∙ or-true (u .misses .two));
+      missed-kept = missed-less h x r (u .misses .last) (u .misses .opened) en (K .missed-kept);
+      ordered = ordered-sample u h x r t e g o en K;
+      opened = opened-more h x ∙ or-true (openedIn h) ∙ sym (ap (λ (b : Bool). u .misses .opened || b) a ∙ or-true (u .misses .opened));
       calm = λ (z : PROBATION ≡ ACCREDITED). absurd (omega arith);
       year = rw e (omega (arith, g .month));
       miss = omega (arith, K .miss);
@@ -179,10 +195,11 @@ sample-step false u h line r t e a w g o k m K =
     let en = entry-at line r Sample w refl k false m in
     let n = not-before u r o in
     let c = calm-in u h K (stage-is u r o k) in
-    let none : (u .misses .two || anyOver t) ≡ false = ap₂ (λ (p q : Bool). p || q) (c .two) a in
+    let none : (u .misses .opened || anyOver t) ≡ false = ap₂ (λ (p q : Bool). p || q) (c .unopened) a in
     record {
       charted = charted-more u h x r t e g o k en K;
-      missed-kept = missed-less h x r (u .misses .last) (u .misses .two) en (K .missed-kept);
+      missed-kept = missed-less h x r (u .misses .last) (u .misses .opened) en (K .missed-kept);
+      ordered = ordered-sample u h x r t e g o en K;
       opened = opened-more h x ∙ or-false (openedIn h) ∙ K .opened ∙ K .calm (stage-is u r o k) ∙ sym none;
       calm = λ _. none;
       year = rw e (omega (arith, g .month));
@@ -191,9 +208,9 @@ sample-step false u h line r t e a w g o k m K =
 
 -- ---- an accepted study line leaves no entry
 
-study-entry : (line : List ℕ) (r : Record) (e : Event) → readOf line ≡ Whole r → isRefused e ≡ false → r .kind ≡ STUDY → entryIn (record { line = line; event = e }) ≡ []
+study-entry : (line : List ℕ) (r : Record) (e : Event) → readOf line ≡ Whole r → isAccepted e ≡ true → r .kind ≡ STUDY → entryIn (record { line = line; event = e }) ≡ []
 study-entry line r e w n k =
-    ap₂ (λ (p : Bool) (a : Read). cond p [] (entryOf a)) n w ∙ ap (λ (j : ℕ). cond (eqb j MAINTENANCE) (entryBy (missed r) r ∷ []) []) k
+    ap₂ (λ (p : Bool) (a : Read). cond p (entryOf a) []) n w ∙ ap (λ (j : ℕ). cond (eqb j MAINTENANCE) (entryBy (missed r) r ∷ []) []) k
 
 failed-elsewhere : (stage : ℕ) (A : Type 0) → failedStage stage ≡ ACCREDITED → A
 failed-elsewhere stage A e = go (eqb stage 0) e
@@ -204,7 +221,7 @@ failed-elsewhere stage A e = go (eqb stage 0) e
 
 -- what is kept after a step
 abbrev pub next : List Step → List ℕ → Event → List Step
-next h line e = cond (isPassed e) [] (h ++ record { line = line; event = e } ∷ [])
+next h line e = cond (isAdmission e) [] (h ++ record { line = line; event = e } ∷ [])
 
 judged-step : (b : Bool) (u : U.Unit) (h : List Step) (line : List ℕ) (r : Record) → readOf line ≡ Whole r → Open u r → r .kind ≡ STUDY → Kept u h
     → Kept (judgedBy b u (monthOf r) .unit) (next h line (judgedBy b u (monthOf r) .event))
@@ -221,11 +238,11 @@ study-step false u h line r s w o k K =
 -- ---- every line
 
 -- the events of a maintenance line are no admission
-missed-next : (b : Bool) (u : U.Unit) (m : ℕ) → isPassed (missedBy b u m .event) ≡ false
+missed-next : (b : Bool) (u : U.Unit) (m : ℕ) → isAdmission (missedBy b u m .event) ≡ false
 missed-next true u m = refl
 missed-next false u m = refl
 
-sample-next : (b : Bool) (u : U.Unit) (m : ℕ) (t : Stretch) → isPassed (sampleBy b u m t .event) ≡ false
+sample-next : (b : Bool) (u : U.Unit) (m : ℕ) (t : Stretch) → isAdmission (sampleBy b u m t .event) ≡ false
 sample-next true u m t = refl
 sample-next false u m t = refl
 
@@ -241,14 +258,14 @@ accepted-step false true u h line r p q w g o K =
     let b = again (u .misses .last) (monthOf r) in
     rw (missed-next b u (monthOf r)) (missed-step b u h line r refl w g o (other-kind r g p) q K)
 accepted-step false false u h line r p q w g o K =
-    let t = sampledOf (u .stretch) (r .year) (differencesOf r) in
+    let t = sampledOf (u .stretch) (r .year) (contributedBy r) in
     rw (sample-next (anyOver t) u (monthOf r) t) (sample-step (anyOver t) u h line r t refl refl w g o (other-kind r g p) q K)
 
-record-step : (u : U.Unit) (h : List Step) (line : List ℕ) (r : Record) → readOf line ≡ Whole r → GoodRecord r → Kept u h → Kept (recordOf u r .unit) (next h line (recordOf u r .event))
-unfolding recordOf
+record-step : (u : U.Unit) (h : List Step) (line : List ℕ) (r : Record) → readOf line ≡ Whole r → GoodRecord r → Kept u h → Kept (takenRecord u r .unit) (next h line (takenRecord u r .event))
+unfolding takenRecord
 record-step u h line r w g K = go (firstRow (unitRows u r)) refl
   where
-    go : (n : ℕ) → firstRow (unitRows u r) ≡ n → Kept (recordBy n u r .unit) (next h line (recordBy n u r .event))
+    go : (n : ℕ) → firstRow (unitRows u r) ≡ n → Kept (takenByRow n u r .unit) (next h line (takenByRow n u r .event))
     go zero e = accepted-step (eqb (r .kind) STUDY) (missed r) u h line r refl refl w g (is-open u r e) K
     go (suc n) e = idle u u h (record { line = line; event = Refused (suc n) }) refl refl refl refl (λ z. z) (omega arith) K
 
@@ -256,6 +273,6 @@ pub step-kept : (u : U.Unit) (h : List Step) (line : List ℕ) → Kept u h → 
 unfolding takenOf
 step-kept u h line K = go (readOf line) refl
   where
-    go : (a : Read) → readOf line ≡ a → Kept (readBy u a .unit) (next h line (readBy u a .event))
+    go : (a : Read) → readOf line ≡ a → Kept (takenRead u a .unit) (next h line (takenRead u a .event))
     go (Unread n) e = idle u u h (record { line = line; event = Refused n }) refl refl refl refl (λ z. z) (omega arith) K
     go (Whole r) e = record-step u h line r e (good-record line r e) K

@@ -7,13 +7,15 @@ pub mod Coefficients
 pub mod Value
 pub mod Bounds
 pub mod Steps
-pub mod Held
+pub mod SumsLaws
 pub mod Spread
 pub mod MeanLaws
 pub mod Room
 pub mod Taking
 pub mod GoodLaws
 pub mod Reach
+pub mod Refusals
+pub mod Months
 pub mod View
 pub mod Kept
 pub mod Claimed

@@ -9,7 +9,8 @@ use lib.Dec.{ltb, eqb}
 use Rattle.laws.proofs.Bools.{or-neither}
 use Rattle.line.specs.Refused.{meanRow, MOST, LEAST-PROTEIN, LEAST-BEEF-FAT, classOf}
 use Rattle.line.specs.declared.record.Means.{Means}
-use Rattle.unit.specs.Good.{leastMean, GoodMean}
+use Rattle.unit.specs.Standardize.{leastMean}
+use Rattle.unit.specs.bounds.Records.{GoodMean}
 use Rattle.unit.specs.Standardize.{badMean}
 
 -- fat: 0, or below its least in ground beef

@@ -1,17 +1,15 @@
 -- The list of powers that src/powers.rt has, and its rule at each index: one test, computed over the whole list. Assumes nothing.
-use mathlib.Core.Path.{_≡_, ap, subst, _∙_}
+use mathlib.Core.Path.{_≡_, subst}
 use mathlib.Core.Bool.{Bool}
 use mathlib.Core.List.{List, [], _∷_}
-use Prim.Native.Nat.{ℕ, suc, _+_, _-_, _*_, _/_, _%_, _<_, _≤_, _^_, zero-le}
+use Prim.Native.Nat.{ℕ, suc, _-_, _<_, _≤_, _^_, zero-le}
 use native.Mathlib.Nat.{lt-of-le-of-lt, mul-le-mul, mul-le-mul-right, one-le-pow, pow-le-pow-left}
 use native.Mathlib.Omega.{arith}
 use lib.Dec.{lit<, lit≤}
-use lib.ListN.{getD, take, drop}
-use lib.Seq.{getD-take, getD-drop}
+use lib.ListN.{getD}
 use Rattle.laws.proofs.Table.{at}
-use Rattle.unit.specs.Largest.{IsRoot}
-use Rattle.unit.specs.Difference.{powered, powerOf}
-use Rattle.unit.proofs.Largest.{right, unique, positive, isRoot, tested}
+use Rattle.unit.specs.Difference.{powered, powerOf, PowerIsLargest}
+use Rattle.unit.proofs.Largest.{IsRoot, largest, right, unique, positive, isRoot, tested}
 
 unfoldable pub powers : List ℕ
 powers =
@@ -90,19 +88,15 @@ small t l = lt-of-le-of-lt (mul-le-mul-right (10 ^ 67) (pow-le-pow-left l 13)) (
 pub power-right : (t : ℕ) → t ≤ 1000 → IsRoot 20 (powered t) (powerOf t)
 power-right t l = right 18 20 (powered t) zero-le (small t l)
 
+pub largest-power : PowerIsLargest
+largest-power t l = largest (power-right t l)
+
 -- what the list holds for t is the power for t
-power-at : (t : ℕ) → 1 ≤ t → t ≤ 1000 → getD powers (t - 1) 0 ≡ powerOf t
+pub power-at : (t : ℕ) → 1 ≤ t → t ≤ 1000 → getD powers (t - 1) 0 ≡ powerOf t
 power-at t h l =
     let p = getD powers (t - 1) 0 in
     let e : suc (t - 1) ≡ t = omega arith in
     unique 20 (powered t) (subst (λ (n : ℕ). IsRoot 20 (powered n) p) e (entry (t - 1) (omega arith))) (power-right t l)
-
--- what stands for t in its row of 250 is the power for t
-pub row-at : (r t : ℕ) → 1 ≤ t → t ≤ 1000 → (t - 1) / 250 ≡ r → getD (take 250 (drop (250 * r) powers)) ((t - 1) % 250) 0 ≡ powerOf t
-row-at r t h l e =
-    let j = (t - 1) % 250 in
-    let here : 250 * r + j ≡ t - 1 = omega arith in
-    getD-take 250 (drop (250 * r) powers) j 0 (omega arith) ∙ getD-drop (250 * r) powers j 0 ∙ ap (λ (n : ℕ). getD powers n 0) here ∙ power-at t h l
 
 pub power-positive : (t : ℕ) → 1 ≤ t → t ≤ 1000 → 1 ≤ powerOf t
 power-positive t h l =

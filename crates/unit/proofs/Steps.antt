@@ -7,17 +7,12 @@ use lib.IntN.{ℤ, pos, natAbs, _+ℤ_}
 use lib.Signed.{ltZ, leZ}
 use Rattle.laws.proofs.Cond.{cases}
 use Rattle.laws.proofs.Word.{abs-plus}
-use Rattle.grounds.specs.Chart.{raised, nextValue, nextFirst}
+use Rattle.grounds.specs.Chart.{nextValue, nextFirst}
 use Rattle.unit.specs.declared.chart.Charts.{Charts}
 use Rattle.unit.specs.declared.contribution.Contributions.{Contributions}
 use Rattle.unit.specs.Stretch.{FULL}
 use Rattle.unit.specs.Charts.{chartsOf}
-use Rattle.unit.specs.Bounds.{LARGEST, Moderate, AllRoomy, AllModerate, Within}
-
-pub later-value : (before : ℕ) (value x : ℤ) → 1 ≤ before → nextValue before value x ≡ raised (value +ℤ x)
-unfolding nextValue
-later-value zero value x h = absurd (omega arith)
-later-value (suc before) value x h = refl
+use Rattle.unit.specs.bounds.Numbers.{LARGEST, Moderate, AllRoomy, AllModerate, ChartsBounded}
 
 pub early-first : (before : ℕ) (value : ℤ) (first : ℕ) → before < 2 → nextFirst before value first ≡ 1
 unfolding nextFirst
@@ -41,11 +36,11 @@ value-within (suc n) value x h l =
     (λ _. omega (arith, abs-plus value x))
 
 -- a full stretch leaves room
-pub roomy : {n : ℕ} (charts : Charts) → n ≤ FULL → Within n charts → AllRoomy charts
+pub roomy : {n : ℕ} (charts : Charts) → n ≤ FULL → ChartsBounded n charts → AllRoomy charts
 roomy charts h w = record { p = omega (arith, w .p); n = omega (arith, w .n); v = omega (arith, w .v); d = omega (arith, w .d) }
 
 -- one sample more; the first of a stretch, whatever the charts held
-pub more-within : (n : ℕ) (charts : Charts) (x : Contributions) → Within n charts → AllModerate x → Within (suc n) (chartsOf charts n x)
+pub more-within : (n : ℕ) (charts : Charts) (x : Contributions) → ChartsBounded n charts → AllModerate x → ChartsBounded (suc n) (chartsOf charts n x)
 more-within n charts x w m =
     record {
       p = value-within n (charts .p .value) (x .p) (w .p) (m .p);
@@ -54,6 +49,6 @@ more-within n charts x w m =
       d = value-within n (charts .d .value) (x .d) (w .d) (m .d);
     }
 
-pub first-within : (charts : Charts) (x : Contributions) → AllModerate x → Within 1 (chartsOf charts 0 x)
+pub first-within : (charts : Charts) (x : Contributions) → AllModerate x → ChartsBounded 1 (chartsOf charts 0 x)
 unfolding nextValue
 first-within charts x m = record { p = m .p; n = m .n; v = m .v; d = m .d }

@@ -12,8 +12,9 @@ use Rattle.unit.proofs.Fourth.{root-positive}
 use Rattle.unit.specs.declared.coefficient.Power.the-variants.{Constant, P, Q}
 use Rattle.unit.specs.declared.coefficient.Coefficient.{Coefficient}
 use Rattle.line.specs.Refused.{MOST, LEAST-PROTEIN, LEAST-BEEF-FAT, classOf, isDry}
-use Rattle.unit.specs.Difference.{_times_, moisture, protein, fat, salt, coefficientFor, coefficientOf, valueBy, valueOf, tenthsOf, powerOf}
-use Rattle.unit.specs.Good.{leastMean, GoodMean}
+use Rattle.unit.specs.Difference.{_with_, moisture, protein, fat, salt, coefficientFor, coefficientOf, valueBy, valueOf, tenthsOf, powerOf}
+use Rattle.unit.specs.Standardize.{leastMean}
+use Rattle.unit.specs.bounds.Records.{GoodMean}
 
 -- ---- what the coefficient of a good mean can be
 
@@ -34,8 +35,8 @@ fat-mean class m g =
     cases (λ (n : ℕ). n ≤ m → 1 ≤ m) (eqb class 1) LEAST-BEEF-FAT 1 (λ _ h. omega arith) (λ _ h. h) (g .least)
 
 module _ (H : Coefficient → Type 0) (class : ℕ) (dry : Bool) (analyte m : ℕ) (small : class < 4) (good : GoodMean class analyte m)
-    (constant : (k : ℕ) → 1 ≤ k → k ≤ 710 → H (k times Constant)) (p : analyte ≡ 1 → H (60 times P))
-    (q : (k : ℕ) → 1 ≤ k → k ≤ 710 → 1 ≤ m → H (k times Q)) where
+    (constant : (k : ℕ) → 1 ≤ k → k ≤ 710 → H (k with Constant)) (p : analyte ≡ 1 → H (60 with P))
+    (q : (k : ℕ) → 1 ≤ k → k ≤ 710 → 1 ≤ m → H (k with Q)) where
   of-moisture : H (moisture class)
   of-moisture = constant (moisture class .thousandths) (moisture-small class small .0) (moisture-small class small .1)
 
@@ -43,18 +44,18 @@ module _ (H : Coefficient → Type 0) (class : ℕ) (dry : Bool) (analyte m : �
   unfolding fat
   of-fat h =
       let some = fat-mean class m (subst (λ (a : ℕ). GoodMean class a m) h good) in
-      cases H (eqb class 1) (350 times Q) (cond (ltb m 1250) (260 times Q) (300 times Q))
+      cases H (eqb class 1) (350 with Q) (cond (ltb m 1250) (260 with Q) (300 with Q))
       (λ _. q 350 (lit≤ tt) (lit≤ tt) some)
-      (λ _. cases H (ltb m 1250) (260 times Q) (300 times Q)
+      (λ _. cases H (ltb m 1250) (260 with Q) (300 with Q)
       (λ _. q 260 (lit≤ tt) (lit≤ tt) some)
       (λ _. q 300 (lit≤ tt) (lit≤ tt) some))
 
   of-salt : H (salt dry m)
   unfolding salt
   of-salt =
-      cases H (ltb m 100) (127 times Constant) (cond (leb 400 m && dry) (220 times Constant) (127 times Q))
+      cases H (ltb m 100) (127 with Constant) (cond (leb 400 m && dry) (220 with Constant) (127 with Q))
       (λ _. constant 127 (lit≤ tt) (lit≤ tt))
-      (λ e. cases H (leb 400 m && dry) (220 times Constant) (127 times Q)
+      (λ e. cases H (leb 400 m && dry) (220 with Constant) (127 with Q)
       (λ _. constant 220 (lit≤ tt) (lit≤ tt))
       (λ _. q 127 (lit≤ tt) (lit≤ tt) (omega (arith, ltb-false m 100 e))))
 
@@ -74,7 +75,7 @@ tenths-positive {m} h l = power-positive (tenthsOf m) (omega arith) (omega arith
 -- ---- so the powers are asked for means that they have, and the value is positive and fits
 
 module _ (product analyte m : ℕ) (good : GoodMean (classOf product) analyte m) where
-  abbrev theirs : (H : Coefficient → Type 0) → ((k : ℕ) → 1 ≤ k → k ≤ 710 → H (k times Constant)) → (analyte ≡ 1 → H (60 times P)) → ((k : ℕ) → 1 ≤ k → k ≤ 710 → 1 ≤ m → H (k times Q)) → H (coefficientOf product analyte m)
+  abbrev theirs : (H : Coefficient → Type 0) → ((k : ℕ) → 1 ≤ k → k ≤ 710 → H (k with Constant)) → (analyte ≡ 1 → H (60 with P)) → ((k : ℕ) → 1 ≤ k → k ≤ 710 → 1 ≤ m → H (k with Q)) → H (coefficientOf product analyte m)
   theirs H = each H (classOf product) (isDry product) analyte m (mod-lt product (lit< tt)) good
 
   at-protein : analyte ≡ 1 → GoodMean (classOf product) 1 m

@@ -15,14 +15,14 @@ use Rattle.grounds.specs.Chart.{over}
 use Rattle.grounds.proofs.Charted as G
 use Rattle.laws.proofs.Below.{below}
 use Rattle.laws.proofs.Bools.{either, or-neither}
-use Rattle.unit.specs.Claim.{CHARTS, limit, differenceAt, contributionAt, bitAt, noRow}
-use Rattle.unit.specs.Contribution.{food, contributionsOf, limitOf}
-use Rattle.unit.specs.Status.{bitOf, maskOf, rowsOf}
-use Rattle.unit.specs.Stretch.{noChart, sampledOf, overIn, anyOver}
+use Rattle.unit.specs.Claim.{CHARTS, limit, contributionTo, bitAt, noReport}
+use Rattle.unit.specs.Contribution.{food, limitOf}
+use Rattle.unit.specs.Status.{reportFor, reportsOf, bitOf, maskOf}
+use Rattle.unit.specs.Stretch.{noChart, noSamples, sampledOf, overIn, anyOver}
 use Rattle.unit.specs.declared.chart.Chart.{Chart}
 use Rattle.unit.specs.declared.chart.Charts.{Charts}
-use Rattle.unit.specs.declared.report.Row.{Row}
-use Rattle.unit.specs.declared.sample.Differences.{Differences}
+use Rattle.unit.specs.declared.report.ChartReport.{ChartReport}
+use Rattle.unit.specs.Sample.{Contributed}
 use Rattle.unit.specs.declared.stretch.Stretch.{Stretch}
 
 abbrev pub chartAt : Stretch → ℕ → Chart
@@ -36,11 +36,12 @@ chartAt s c =
 abbrev pub view : Stretch → G.Charts
 view s = record { value = λ c. chartAt s c .value; first = λ c. chartAt s c .first; samples = s .samples; year = s .year }
 
-abbrev contributes : Differences → ℕ → ℤ
-contributes d c = contributionAt (contributionsOf food (differenceAt d (c / 4))) (c % 4)
+-- with no sample no chart shows anything
+pub empty-at : (c : ℕ) → c < CHARTS → chartAt noSamples c ≡ noChart
+empty-at = below CHARTS (λ c. chartAt noSamples c ≡ noChart) (refl, (refl, (refl, (refl, (refl, (refl, (refl, (refl, (refl, (refl, (refl, (refl, (refl, (refl, (refl, (refl, tt))))))))))))))))
 
-pub moves : (s : Stretch) (year : ℕ) (d : Differences) → G.Moved CHARTS year (contributes d) (view s) (view (sampledOf s year d))
-moves s year d = record {
+pub moves : (s : Stretch) (year : ℕ) (x : Contributed) → G.Moved CHARTS year (contributionTo x) (view s) (view (sampledOf s year x))
+moves s year x = record {
   values = below CHARTS _ (refl, (refl, (refl, (refl, (refl, (refl, (refl, (refl, (refl, (refl, (refl, (refl, (refl, (refl, (refl, (refl, tt))))))))))))))));
   firsts = below CHARTS _ (refl, (refl, (refl, (refl, (refl, (refl, (refl, (refl, (refl, (refl, (refl, (refl, (refl, (refl, (refl, (refl, tt))))))))))))))));
   number = refl;
@@ -48,8 +49,11 @@ moves s year d = record {
 }
 
 -- every limit is at least 0
+low-for : (k : ℕ) → k < 4 → pos 0 ≤ℤ limitOf food k
+low-for = below 4 (λ k. pos 0 ≤ℤ limitOf food k) (record { le = tt }, (record { le = tt }, (record { le = tt }, (record { le = tt }, tt))))
+
 pub low : (c : ℕ) → c < CHARTS → pos 0 ≤ℤ limit c
-low = below CHARTS (λ c. pos 0 ≤ℤ limit c) (record { le = tt }, (record { le = tt }, (record { le = tt }, (record { le = tt }, (record { le = tt }, (record { le = tt }, (record { le = tt }, (record { le = tt }, (record { le = tt }, (record { le = tt }, (record { le = tt }, (record { le = tt }, (record { le = tt }, (record { le = tt }, (record { le = tt }, (record { le = tt }, tt))))))))))))))))
+low c h = low-for (c % 4) (omega arith)
 
 -- ---- which charts are over
 
@@ -129,18 +133,15 @@ bit-first false m =
     let e : (0 + 2 * m) / 2 ^ 0 % 2 ≡ 0 = omega arith in
     rw e
 
-pub bit-of : (rows : List Row) (c : ℕ) → c < length rows → bitAt c (maskOf rows) ≡ getD rows c noRow .over
+pub bit-of : (rows : List ChartReport) (c : ℕ) → c < length rows → bitAt c (maskOf rows) ≡ getD rows c noReport .over
 bit-of [] c h = absurd (omega arith)
 bit-of (r ∷ rows) zero h = bit-first (r .over) (maskOf rows)
 bit-of (r ∷ rows) (suc c) h = ap (λ (n : ℕ). eqb (n % 2) 1) (bit-step (bitOf (r .over)) (maskOf rows) c (bit-lt (r .over))) ∙ bit-of rows c (omega arith)
 
 -- ---- what the status shows of a chart is the chart's
 
-pub record Shown (s : Stretch) (c : ℕ) : Type 0 where
-  pub over-is : getD (rowsOf s) c noRow .over ≡ overAt s c
-  pub first : getD (rowsOf s) c noRow .first ≡ chartAt s c .first
-  pub last : getD (rowsOf s) c noRow .last ≡ s .samples
-  pub value : getD (rowsOf s) c noRow .value ≡ chartAt s c .value
+abbrev Shown : Stretch → ℕ → Type 0
+Shown s c = getD (reportsOf s) c noReport ≡ reportFor (overAt s c) (s .samples) (chartAt s c)
 
 pub shown-at : (s : Stretch) (c : ℕ) → c < CHARTS → Shown s c
-shown-at s = below CHARTS (Shown s) (record { over-is = refl; first = refl; last = refl; value = refl }, (record { over-is = refl; first = refl; last = refl; value = refl }, (record { over-is = refl; first = refl; last = refl; value = refl }, (record { over-is = refl; first = refl; last = refl; value = refl }, (record { over-is = refl; first = refl; last = refl; value = refl }, (record { over-is = refl; first = refl; last = refl; value = refl }, (record { over-is = refl; first = refl; last = refl; value = refl }, (record { over-is = refl; first = refl; last = refl; value = refl }, (record { over-is = refl; first = refl; last = refl; value = refl }, (record { over-is = refl; first = refl; last = refl; value = refl }, (record { over-is = refl; first = refl; last = refl; value = refl }, (record { over-is = refl; first = refl; last = refl; value = refl }, (record { over-is = refl; first = refl; last = refl; value = refl }, (record { over-is = refl; first = refl; last = refl; value = refl }, (record { over-is = refl; first = refl; last = refl; value = refl }, (record { over-is = refl; first = refl; last = refl; value = refl }, tt))))))))))))))))
+shown-at s = below CHARTS (Shown s) (refl, (refl, (refl, (refl, (refl, (refl, (refl, (refl, (refl, (refl, (refl, (refl, (refl, (refl, (refl, (refl, tt))))))))))))))))

@@ -1,4 +1,4 @@
--- The four charts of one analyte, moved by the law of the crate `grounds`. Document 01, "Stretch and run".
+-- The four charts of one analyte, the regulation's CUSUMs, moved by the law of the crate `grounds`. Document 01, "Stretch and run".
 use Prim.Native.Nat.{ℕ}
 use lib.IntN.{ℤ}
 use Rattle.grounds.specs.Chart.{nextValue, nextFirst, over}

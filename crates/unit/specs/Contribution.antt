@@ -1,4 +1,5 @@
--- Document 01, "Contributions to the charts": what a difference d adds to the charts P, N, V and D of its analyte.
+-- Document 01, "Contributions to the charts": what a difference d adds to the charts P, N, V and D of its analyte. A contribution is the
+-- regulation's increment of a CUSUM, for N with its sign turned.
 use Prim.Native.Nat.{ℕ, _*_, _-_}
 use mathlib.Core.Bool.{cond}
 use mathlib.Core.List.{[], _∷_}

@@ -1,30 +1,39 @@
 -- Document 01, "Standardizing value and difference", from the mean to the standardizing value and the difference.
-use Prim.Native.Nat.{ℕ, suc, _+_, _*_, _/_, _^_, min}
+use Prim.Native.Nat.{ℕ, suc, _+_, _*_, _/_, _^_, _≤_, min}
 use mathlib.Core.Bool.{Bool, cond, _&&_}
 use mathlib.Core.List.{[], _∷_}
 use lib.IntN.{ℤ, pos, negsuc, negℤ, _-ℤ_}
 use lib.Dec.{eqb, leb, ltb}
 use lib.ListN.{getD}
-use Rattle.line.specs.Refused.{classOf, isDry}
+use Rattle.line.specs.Refused.{MOST, classOf, isDry}
 use Rattle.unit.specs.declared.coefficient.Power.{Power}
 use Rattle.unit.specs.declared.coefficient.Power.the-variants.{Constant, P, Q}
 use Rattle.unit.specs.declared.coefficient.Coefficient.{Coefficient}
 use Rattle.unit.specs.declared.difference.Difference.{Difference}
-use Rattle.unit.specs.Largest.{root}
+use Rattle.unit.specs.Largest.{Largest, root}
 
--- the protein power for a mean of t tenths of a percent: the largest whole p with p^20 ≤ t^13 × 10^67
+-- The protein power for a mean of t tenths of a percent: the largest whole p with p^20 ≤ t^13 × 10^67. It has at most 18 binary digits, since
+-- t is at most 1000 and 1000^13 × 10^67 is below (2^18)^20.
 abbrev pub powered : ℕ → ℕ
 powered t = t ^ 13 * 10 ^ 67
 
 abbrev pub powerOf : ℕ → ℕ
 powerOf t = root 18 20 (powered t)
 
--- for a mean of m hundredths, the largest whole q with q^4 ≤ m × 10^14
+-- For a mean of m hundredths, the largest whole q with q^4 ≤ m × 10^14. It has at most 15 binary digits, since m is at most 10000 and
+-- 10000 × 10^14 is below (2^15)^4.
 abbrev pub rooted : ℕ → ℕ
 rooted m = m * 10 ^ 14
 
 abbrev pub rootOf : ℕ → ℕ
 rootOf m = root 15 4 (rooted m)
+
+-- That they are the largest, as laws that are proved: `largest-power` of proofs/PowerList and `largest-root` of proofs/Fourth.
+abbrev pub PowerIsLargest : Type 0
+PowerIsLargest = (t : ℕ) → t ≤ 1000 → Largest 20 (powered t) (powerOf t)
+
+abbrev pub RootIsLargest : Type 0
+RootIsLargest = (m : ℕ) → m ≤ MOST → Largest 4 (rooted m) (rootOf m)
 
 -- a / b to the nearest whole, halves up
 abbrev pub nearest : ℕ → ℕ → ℕ
@@ -35,24 +44,24 @@ abbrev pub tenthsOf : ℕ → ℕ
 tenthsOf m = nearest m 10
 
 -- k in thousandths, and what it is multiplied by: `Constant`, the protein power `P`, or `Q`, the q above
-infix 3 _times_
-abbrev pub _times_ : ℕ → Power → Coefficient
-k times p = record { thousandths = k; power = p }
+infix 3 _with_
+abbrev pub _with_ : ℕ → Power → Coefficient
+k with p = record { thousandths = k; power = p }
 
 -- moisture: k by class 500, 710, 570, 570; constant
 abbrev pub moisture : ℕ → Coefficient
-moisture class = getD (500 ∷ 710 ∷ 570 ∷ 570 ∷ []) class 0 times Constant
+moisture class = getD (500 ∷ 710 ∷ 570 ∷ 570 ∷ []) class 0 with Constant
 
 abbrev pub protein : Coefficient
-protein = 60 times P
+protein = 60 with P
 
 -- fat: k = 260 for m below 1250, else 300; ground beef 350
 unfoldable pub fat : ℕ → ℕ → Coefficient
-fat class m = cond (eqb class 1) (350 times Q) (cond (ltb m 1250) (260 times Q) (300 times Q))
+fat class m = cond (eqb class 1) (350 with Q) (cond (ltb m 1250) (260 with Q) (300 with Q))
 
 -- salt: k = 127 constant for m below 100; from 100 on with q, but bit 7 with m at least 400 gives k = 220 constant
 unfoldable pub salt : Bool → ℕ → Coefficient
-salt dry m = cond (ltb m 100) (127 times Constant) (cond (leb 400 m && dry) (220 times Constant) (127 times Q))
+salt dry m = cond (ltb m 100) (127 with Constant) (cond (leb 400 m && dry) (220 with Constant) (127 with Q))
 
 -- analytes are numbered moisture 0, protein 1, fat 2, salt 3
 unfoldable pub coefficientFor : ℕ → Bool → ℕ → ℕ → Coefficient

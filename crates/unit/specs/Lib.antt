@@ -1,18 +1,17 @@
--- Document 01, section by section.
+-- Document 01, section by section. `bounds` is no part of its rules.
 pub mod Largest
 pub mod Difference
 pub mod Contribution
-pub mod Charts
-pub mod Study
 pub mod Standardize
+pub mod Charts
 pub mod Sample
-pub mod Good
 pub mod Stretch
+pub mod Study
 pub mod Set
 pub mod Event
 pub mod Take
-pub mod Bounds
-pub mod Reached
 pub mod Status
+pub mod Reached
 pub mod Claim
 pub mod Since
+pub mod bounds

@@ -1,4 +1,4 @@
--- Document 01, "Stretch and run": what a record is to the unit. Its month number, whether it is missed, and its differences.
+-- Document 01, "Stretch and run": what a record is to the unit. Its month number, whether it is missed, its differences and its contributions.
 use Prim.Native.Nat.{ℕ, _+_, _*_}
 use mathlib.Core.Bool.{Bool, true, false, _||_}
 use lib.Dec.{ltb}
@@ -8,7 +8,9 @@ use Rattle.line.specs.declared.record.Reading.{Reading}
 use Rattle.line.specs.declared.record.Reading.the-variants.{Percent, NothingFound, Lost}
 use Rattle.line.specs.declared.record.Amount.{Amount}
 use Rattle.line.specs.declared.record.Amount.the-variants.{Hundredths, Unknown}
+use Rattle.unit.specs.Contribution.{food, contributionsOf}
 use Rattle.unit.specs.Difference.{distance, differenceOf, valueOf}
+use Rattle.unit.specs.declared.contribution.Contributions.{Contributions}
 use Rattle.unit.specs.declared.difference.Difference.{Difference}
 use Rattle.unit.specs.declared.sample.Differences.{Differences}
 
@@ -43,4 +45,24 @@ differencesOf r =
       protein = differenceFor (r .product) 1 (r .means .protein) (r .readings .protein);
       fat = differenceFor (r .product) 2 (r .means .fat) (r .readings .fat);
       salt = differenceFor (r .product) 3 (r .means .salt) (r .readings .salt);
+    }
+
+-- what one analyte's reading contributes to its four charts
+abbrev pub contributionsFor : ℕ → ℕ → ℕ → Reading → Contributions
+contributionsFor product analyte mean reading = contributionsOf food (differenceFor product analyte mean reading .tenths)
+
+-- what a sample contributes to the charts of each analyte
+pub record Contributed : Type 0 where
+  pub moisture : Contributions
+  pub protein : Contributions
+  pub fat : Contributions
+  pub salt : Contributions
+
+abbrev pub contributedBy : Record → Contributed
+contributedBy r =
+    record {
+      moisture = contributionsFor (r .product) 0 (r .means .moisture) (r .readings .moisture);
+      protein = contributionsFor (r .product) 1 (r .means .protein) (r .readings .protein);
+      fat = contributionsFor (r .product) 2 (r .means .fat) (r .readings .fat);
+      salt = contributionsFor (r .product) 3 (r .means .salt) (r .readings .salt);
     }

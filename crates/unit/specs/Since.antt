@@ -1,22 +1,30 @@
--- What `since` is, as a law that is proved: the history splits before it; the part before is empty or ends with an admission; and nothing in it is
--- one.
+-- What is read off a history, as laws that are proved.
+use Prim.Native.Nat.{ℕ}
 use mathlib.Core.Path.{_≡_}
-use mathlib.Core.Bool.{Bool, true, false, _||_}
+use mathlib.Core.Bool.{Bool, true, false, cond, _||_}
 use mathlib.Core.Logic.{_⊎_}
 use mathlib.Core.List.{List, [], _∷_, _++_}
-use Rattle.unit.specs.Claim.{Step, isPassed, since}
+use Rattle.grounds.specs.Entry.{years, NeverFall}
+use Rattle.line.specs.Read.{readOf}
+use Rattle.line.specs.declared.record.Read.{Read}
+use Rattle.line.specs.declared.record.Read.the-variants.{Whole, Refused as Unread}
+use Rattle.unit.specs.Claim.{Step, history, isAdmission, isAccepted, since, entriesOf}
+use Rattle.unit.specs.Reached.{replay}
+use Rattle.unit.specs.Sample.{monthOf}
 
 abbrev pub admits : List Step → Bool
 admits [] = false
-admits (x ∷ h) = isPassed (x .event) || admits h
+admits (x ∷ h) = isAdmission (x .event) || admits h
 
 -- the part ends with an admission
 pub record EndsAdmitted (h : List Step) : Type 0 where
   pub front : List Step
   pub last : Step
   pub split : front ++ last ∷ [] ≡ h
-  pub passed : isPassed (last .event) ≡ true
+  pub admission : isAdmission (last .event) ≡ true
 
+-- What `since` is: the history splits before it; the part before is empty or ends with an admission; and nothing in it is one. Proved as `since-is` of
+-- proofs/Claimed.
 pub record Since (h kept : List Step) : Type 0 where
   pub before : List Step
   pub split : before ++ kept ≡ h
@@ -25,3 +33,22 @@ pub record Since (h kept : List Step) : Type 0 where
 
 abbrev pub SinceIs : List Step → Type 0
 SinceIs h = Since h (since h)
+
+-- The years of the samples since admission never fall, so a stretch, which document 01 opens where the year differs from the last sample's, is the
+-- samples of one calendar year. Proved as `years-never-fall` of proofs/Claimed.
+abbrev pub YearsNeverFall : Type 0
+YearsNeverFall = (ls : List (List ℕ)) → NeverFall (years (entriesOf (since (history ls))))
+
+-- the month number of a line that reads
+abbrev pub monthIn : Read → ℕ
+monthIn (Whole r) = monthOf r
+monthIn (Unread n) = 0
+
+-- the last accepted line's month number; m where there is none
+abbrev pub lastMonth : ℕ → List Step → ℕ
+lastMonth m [] = m
+lastMonth m (x ∷ h) = lastMonth (cond (isAccepted (x .event)) (monthIn (readOf (x .line))) m) h
+
+-- What row 10 goes by is the last accepted line's month, before and after admission. Proved as `month-is` of proofs/Months.
+abbrev pub MonthIs : Type 0
+MonthIs = (ls : List (List ℕ)) → replay ls .month ≡ lastMonth 0 (history ls)

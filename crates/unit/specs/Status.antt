@@ -3,43 +3,57 @@
 use Prim.Native.Nat.{ℕ, _+_, _*_}
 use mathlib.Core.Bool.{Bool, true, false}
 use mathlib.Core.List.{List, [], _∷_, _++_}
-use lib.IntN.{ℤ}
-use Rattle.grounds.specs.Chart.{over}
-use Rattle.unit.specs.Contribution.{food, limitOf}
+use Rattle.unit.specs.Charts.{overOf}
+use Rattle.unit.specs.Contribution.{food}
 use Rattle.unit.specs.declared.Unit as U
 use Rattle.unit.specs.declared.chart.Chart.{Chart}
 use Rattle.unit.specs.declared.chart.Charts.{Charts}
-use Rattle.unit.specs.declared.report.Row.{Row}
-use Rattle.unit.specs.declared.report.Rows.{Rows}
+use Rattle.unit.specs.declared.report.ChartReport.{ChartReport}
 use Rattle.unit.specs.declared.report.Report.{Report}
+use Rattle.unit.specs.declared.shown.Reports.{Reports}
 use Rattle.unit.specs.declared.stretch.Stretch.{Stretch}
 
-abbrev pub rowFor : ℤ → ℕ → Chart → Row
-rowFor limit last c = record { over = over limit (c .value); first = c .first; last = last; value = c .value }
+-- a chart, by whether it is over and the stretch's last sample, at which the run shown ends
+abbrev pub reportFor : Bool → ℕ → Chart → ChartReport
+reportFor over last c = record { over = over; first = c .first; last = last; value = c .value }
 
 -- an analyte's charts
-abbrev pub analyteRows : ℕ → Charts → List Row
-analyteRows last c =
-    rowFor (limitOf food 0) last (c .p) ∷ rowFor (limitOf food 1) last (c .n) ∷ rowFor (limitOf food 2) last (c .v) ∷ rowFor (limitOf food 3) last (c .d) ∷ []
+abbrev pub reportsFor : ℕ → Charts → Reports
+reportsFor last c =
+    record {
+      p = reportFor (overOf c food .p) last (c .p);
+      n = reportFor (overOf c food .n) last (c .n);
+      v = reportFor (overOf c food .v) last (c .v);
+      d = reportFor (overOf c food .d) last (c .d);
+    }
 
-abbrev pub four : Rows → List Row
-four r = r .p ∷ r .n ∷ r .v ∷ r .d ∷ []
+-- in the order of their numbers
+abbrev pub inOrder : Reports → List ChartReport
+inOrder r = r .p ∷ r .n ∷ r .v ∷ r .d ∷ []
 
-abbrev pub sixteen : Rows → Rows → Rows → Rows → List Row
-sixteen moisture protein fat salt = four moisture ++ (four protein ++ (four fat ++ four salt))
+abbrev pub sixteen : Reports → Reports → Reports → Reports → List ChartReport
+sixteen moisture protein fat salt = inOrder moisture ++ (inOrder protein ++ (inOrder fat ++ inOrder salt))
 
--- the sixteen charts; the run shown ends at the last sample
-abbrev pub rowsOf : Stretch → List Row
-rowsOf s = analyteRows (s .samples) (s .moisture) ++ (analyteRows (s .samples) (s .protein) ++ (analyteRows (s .samples) (s .fat) ++ analyteRows (s .samples) (s .salt)))
+-- the sixteen charts
+abbrev pub reportsOf : Stretch → List ChartReport
+reportsOf s =
+    sixteen (reportsFor (s .samples) (s .moisture)) (reportsFor (s .samples) (s .protein)) (reportsFor (s .samples) (s .fat))
+    (reportsFor (s .samples) (s .salt))
 
 abbrev pub bitOf : Bool → ℕ
 bitOf true = 1
 bitOf false = 0
 
-abbrev pub maskOf : List Row → ℕ
+abbrev pub maskOf : List ChartReport → ℕ
 maskOf [] = 0
-maskOf (r ∷ rows) = bitOf (r .over) + 2 * maskOf rows
+maskOf (r ∷ reports) = bitOf (r .over) + 2 * maskOf reports
 
 unfoldable pub statusOf : U.Unit → Report
 statusOf u =
-    record { stage = u .stage; samples = u .stretch .samples; mask = maskOf (rowsOf (u .stretch)); misses = u .misses .two; rows = rowsOf (u .stretch) }
+    record {
+      stage = u .stage;
+      samples = u .stretch .samples;
+      mask = maskOf (reportsOf (u .stretch));
+      misses = u .misses .opened;
+      charts = reportsOf (u .stretch);
+    }

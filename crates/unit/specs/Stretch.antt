@@ -2,22 +2,22 @@
 use Prim.Native.Nat.{ℕ, suc}
 use mathlib.Core.Bool.{Bool, _||_}
 use lib.IntN.{pos}
-use Rattle.grounds.specs.Chart.{before}
+use Rattle.grounds.specs.Earlier.{before}
 use Rattle.unit.specs.Charts.{chartsOf, overOf}
-use Rattle.unit.specs.Contribution.{food, contributionsOf}
+use Rattle.unit.specs.Contribution.{food}
 use Rattle.unit.specs.declared.chart.Chart.{Chart}
 use Rattle.unit.specs.declared.chart.Charts.{Charts}
-use Rattle.unit.specs.declared.difference.Difference.{Difference}
-use Rattle.unit.specs.declared.sample.Differences.{Differences}
+use Rattle.unit.specs.Sample.{Contributed}
 use Rattle.unit.specs.declared.stretch.Stretch.{Stretch}
 
+-- a chart before its first sample: nothing is shown of it, and its first sample sets both
 abbrev pub noChart : Chart
 noChart = record { value = pos 0; first = 0 }
 
 abbrev pub noCharts : Charts
 noCharts = record { p = noChart; n = noChart; v = noChart; d = noChart }
 
--- no sample since admission
+-- no sample since admission: year 0, which no line has
 abbrev pub noSamples : Stretch
 noSamples = record { year = 0; samples = 0; moisture = noCharts; protein = noCharts; fat = noCharts; salt = noCharts }
 
@@ -25,19 +25,16 @@ noSamples = record { year = 0; samples = 0; moisture = noCharts; protein = noCha
 abbrev pub earlier : Stretch → ℕ → ℕ
 earlier s year = before year (s .year) (s .samples)
 
--- an analyte's charts after a sample with n before it
-abbrev pub movedOf : Charts → ℕ → Difference → Charts
-movedOf charts n d = chartsOf charts n (contributionsOf food (d .tenths))
-
-abbrev pub sampledOf : Stretch → ℕ → Differences → Stretch
-sampledOf s year d =
+-- after a sample that contributes x
+abbrev pub sampledOf : Stretch → ℕ → Contributed → Stretch
+sampledOf s year x =
     record {
       year = year;
       samples = suc (earlier s year);
-      moisture = movedOf (s .moisture) (earlier s year) (d .moisture);
-      protein = movedOf (s .protein) (earlier s year) (d .protein);
-      fat = movedOf (s .fat) (earlier s year) (d .fat);
-      salt = movedOf (s .salt) (earlier s year) (d .salt);
+      moisture = chartsOf (s .moisture) (earlier s year) (x .moisture);
+      protein = chartsOf (s .protein) (earlier s year) (x .protein);
+      fat = chartsOf (s .fat) (earlier s year) (x .fat);
+      salt = chartsOf (s .salt) (earlier s year) (x .salt);
     }
 
 -- whether any chart is over

@@ -29,7 +29,7 @@ sumsOf (d ∷ ds) = addedOf (sumsOf ds) d
 abbrev pub SET : ℕ
 SET = 36
 
--- V. Nothing is cut off: of 36 differences S² is at most 36Q, by `spread-is` of proofs/Spread.
+-- V. Nothing is cut off: of any 36 differences S² is at most 36Q, by `spread-is` of proofs/Spread. A V cut off would pass as 0 does.
 abbrev pub spreadOf : Sums → ℕ
 spreadOf sums = SET * sums .q - natAbs (sums .s) * natAbs (sums .s)
 

@@ -1,21 +1,24 @@
 -- Document 01, "Stages" and rows 8 to 12 of "Refused": what a line does to a unit. The definition of `take`.
 use Prim.Native.Nat.{ℕ, zero, suc}
 use mathlib.Core.Bool.{Bool, true, false, cond, not, _&&_, _||_}
-use mathlib.Core.List.{List, [], _∷_}
+use mathlib.Core.List.{List, [], _∷_, _++_}
 use lib.Dec.{leb, ltb, eqb}
-use Rattle.grounds.specs.Miss.{again}
-use Rattle.line.specs.Read.{readOf}
-use Rattle.line.specs.Refused.{Row, firstRow, MAINTENANCE, STUDY}
+use Rattle.grounds.specs.Earlier.{again}
+use Rattle.line.specs.Fields.{recordOf}
+use Rattle.line.specs.Read.{fieldsAt, lineRows, readOf}
+use Rattle.rows.specs.Rows.{Row, firstRow}
+use Rattle.line.specs.Refused.{MAINTENANCE, STUDY}
 use Rattle.line.specs.declared.record.Record.{Record}
 use Rattle.line.specs.declared.record.Read.{Read}
 use Rattle.line.specs.declared.record.Read.the-variants.{Whole, Refused as Unread}
-use Rattle.unit.specs.Sample.{monthOf, missed, differencesOf}
+use Rattle.unit.specs.Sample.{monthOf, missed, differencesOf, contributedBy}
 use Rattle.unit.specs.Set.{emptySet, enteredOf, passesSet}
 use Rattle.unit.specs.Study.{SET}
 use Rattle.unit.specs.Stretch.{FULL, noSamples, sampledOf, anyOver}
 use Rattle.unit.specs.declared.Unit as U
 use Rattle.unit.specs.declared.Taken.{Taken}
 use Rattle.unit.specs.declared.Misses.{Misses}
+use Rattle.unit.specs.declared.event.Event.{Event}
 use Rattle.unit.specs.declared.event.Event.the-variants.{Refused, Sample, Missed, UnderWay, Passed, Failed, ByCharts, ByMisses}
 use Rattle.unit.specs.declared.set.Set.{Set}
 use Rattle.unit.specs.declared.stretch.Stretch.{Stretch}
@@ -36,11 +39,11 @@ PROBATION = 3
 abbrev pub CLOSED : ℕ
 CLOSED = 4
 
--- no miss since admission; a month number is never 0
+-- no miss since admission: month 0, which no line has
 abbrev pub noMisses : Misses
-noMisses = record { last = 0; two = false }
+noMisses = record { last = 0; opened = false }
 
--- a new unit is at stage 0
+-- a new unit is at stage 0; a last month of 0, before every line's, stands for no accepted line
 abbrev pub newUnit : U.Unit
 newUnit = record { stage = APPLICANT; month = 0; set = emptySet; stretch = noSamples; misses = noMisses }
 
@@ -64,63 +67,69 @@ gapRow r = eqb (r .kind) STUDY && missed r
 abbrev pub fullRow : U.Unit → Record → Bool
 fullRow u r = (eqb (r .kind) MAINTENANCE && not (missed r)) && (eqb (r .year) (u .stretch .year) && leb FULL (u .stretch .samples))
 
--- rows 8 to 12 of the table, by whether each fits
-abbrev pub unitRowsOf : Bool → Bool → Bool → Bool → Bool → List Row
-unitRowsOf closed stage backdated gap full =
-    record { number = 8; fits = closed }
-    ∷ record { number = 9; fits = stage }
-    ∷ record { number = 10; fits = backdated }
-    ∷ record { number = 11; fits = gap }
-    ∷ record { number = 12; fits = full }
-    ∷ []
+-- the rows' numbers
+abbrev pub ROW-CLOSED : ℕ
+ROW-CLOSED = 8
 
+abbrev pub ROW-STAGE : ℕ
+ROW-STAGE = 9
+
+abbrev pub ROW-BACKDATED : ℕ
+ROW-BACKDATED = 10
+
+abbrev pub ROW-GAP : ℕ
+ROW-GAP = 11
+
+abbrev pub ROW-FULL : ℕ
+ROW-FULL = 12
+
+-- rows 8 to 12, in the table's order
 abbrev pub unitRows : U.Unit → Record → List Row
-unitRows u r = unitRowsOf (closedRow u) (stageRow u r) (backdatedRow u r) (gapRow r) (fullRow u r)
+unitRows u r =
+    record { number = ROW-CLOSED; fits = closedRow u }
+    ∷ record { number = ROW-STAGE; fits = stageRow u r }
+    ∷ record { number = ROW-BACKDATED; fits = backdatedRow u r }
+    ∷ record { number = ROW-GAP; fits = gapRow r }
+    ∷ record { number = ROW-FULL; fits = fullRow u r }
+    ∷ []
 
 -- a refusal returns its number alone, and the unit keeps its contents
 abbrev pub refusedOf : U.Unit → ℕ → Taken
 refusedOf u n = record { event = Refused n; unit = u }
 
+-- what an accepted line leaves: the event, and the unit's stage, last accepted month, set, stretch and misses after it
+abbrev pub takenAs : Event → ℕ → ℕ → Set → Stretch → Misses → Taken
+takenAs event stage month set stretch misses =
+    record { event = event; unit = record { stage = stage; month = month; set = set; stretch = stretch; misses = misses } }
+
 -- A missed line: by whether it is at most 11 months after an earlier miss since admission.
 abbrev pub missedBy : Bool → U.Unit → ℕ → Taken
-missedBy true u month = record {
-  event = ByMisses;
-  unit = record { stage = PROBATION; month = month; set = u .set; stretch = u .stretch; misses = record { last = month; two = true } };
-}
-missedBy false u month = record {
-  event = Missed;
-  unit = record { stage = u .stage; month = month; set = u .set; stretch = u .stretch; misses = record { last = month; two = u .misses .two } };
-}
+missedBy true u month = takenAs ByMisses PROBATION month (u .set) (u .stretch) (record { last = month; opened = true })
+missedBy false u month = takenAs Missed (u .stage) month (u .set) (u .stretch) (record { last = month; opened = u .misses .opened })
 
 abbrev pub missedOf : U.Unit → Record → Taken
 missedOf u r = missedBy (again (u .misses .last) (monthOf r)) u (monthOf r)
 
 -- A sample: by whether it leaves any chart over.
 abbrev pub sampleBy : Bool → U.Unit → ℕ → Stretch → Taken
-sampleBy true u month s = record { event = ByCharts; unit = record { stage = PROBATION; month = month; set = u .set; stretch = s; misses = u .misses } }
-sampleBy false u month s = record { event = Sample; unit = record { stage = u .stage; month = month; set = u .set; stretch = s; misses = u .misses } }
+sampleBy true u month s = takenAs ByCharts PROBATION month (u .set) s (u .misses)
+sampleBy false u month s = takenAs Sample (u .stage) month (u .set) s (u .misses)
 
 abbrev pub sampleOf : U.Unit → Record → Taken
-sampleOf u r = let s = sampledOf (u .stretch) (r .year) (differencesOf r) in sampleBy (anyOver s) u (monthOf r) s
+sampleOf u r = let s = sampledOf (u .stretch) (r .year) (contributedBy r) in sampleBy (anyOver s) u (monthOf r) s
 
 -- A set that was judged, by whether it passed. Passed is admission, which clears charts, grounds and misses.
 abbrev pub failedStage : ℕ → ℕ
 failedStage stage = cond (eqb stage APPLICANT) SECOND CLOSED
 
 abbrev pub judgedBy : Bool → U.Unit → ℕ → Taken
-judgedBy true u month = record { event = Passed; unit = record { stage = ACCREDITED; month = month; set = emptySet; stretch = noSamples; misses = noMisses } }
-judgedBy false u month = record {
-  event = Failed;
-  unit = record { stage = failedStage (u .stage); month = month; set = emptySet; stretch = u .stretch; misses = u .misses };
-}
+judgedBy true u month = takenAs Passed ACCREDITED month emptySet noSamples noMisses
+judgedBy false u month = takenAs Failed (failedStage (u .stage)) month emptySet (u .stretch) (u .misses)
 
 -- A study line: by whether it is the set's last.
 abbrev pub studyBy : Bool → U.Unit → ℕ → Set → Taken
 studyBy true u month s = judgedBy (passesSet s) u month
-studyBy false u month s = record {
-  event = UnderWay (s .lines);
-  unit = record { stage = u .stage; month = month; set = s; stretch = u .stretch; misses = u .misses };
-}
+studyBy false u month s = takenAs (UnderWay (s .lines)) (u .stage) month s (u .stretch) (u .misses)
 
 abbrev pub studyOf : U.Unit → Record → Taken
 studyOf u r = let s = enteredOf (u .set) (differencesOf r) in studyBy (eqb (s .lines) SET) u (monthOf r) s
@@ -132,23 +141,22 @@ acceptedBy false true u r = missedOf u r
 acceptedBy false false u r = sampleOf u r
 
 -- a record, by the first of rows 8 to 12 that fits
-abbrev pub recordBy : ℕ → U.Unit → Record → Taken
-recordBy zero u r = acceptedBy (eqb (r .kind) STUDY) (missed r) u r
-recordBy (suc row) u r = refusedOf u (suc row)
+abbrev pub takenByRow : ℕ → U.Unit → Record → Taken
+takenByRow zero u r = acceptedBy (eqb (r .kind) STUDY) (missed r) u r
+takenByRow (suc row) u r = refusedOf u (suc row)
 
-unfoldable pub recordOf : U.Unit → Record → Taken
+unfoldable pub takenRecord : U.Unit → Record → Taken
 unfolding firstRow
-recordOf u r = recordBy (firstRow (unitRows u r)) u r
-
--- the number of a refused reading
-abbrev pub numberOf : Read → ℕ
-numberOf (Whole r) = 0
-numberOf (Unread n) = n
+takenRecord u r = takenByRow (firstRow (unitRows u r)) u r
 
 -- a line that does not read is refused before the stage is looked at
-abbrev pub readBy : U.Unit → Read → Taken
-readBy u (Unread n) = refusedOf u n
-readBy u (Whole r) = recordOf u r
+abbrev pub takenRead : U.Unit → Read → Taken
+takenRead u (Unread n) = refusedOf u n
+takenRead u (Whole r) = takenRecord u r
 
 unfoldable pub takenOf : U.Unit → List ℕ → Taken
-takenOf u line = readBy u (readOf line)
+takenOf u line = takenRead u (readOf line)
+
+-- All rows of a line given to a unit, 1 to 12. The first that fits is given, and only then: clause `first` of `take`.
+abbrev pub takeRows : U.Unit → List ℕ → List Row
+takeRows u line = lineRows line ++ unitRows u (recordOf (fieldsAt line))

@@ -5,12 +5,13 @@ use crate::contribution::LIMIT_V;
 use crate::contribution::Systematic;
 ghost use mathlib.Core.Path.{_≡_};
 ghost use Prim.Native.Nat.{_<_};
-ghost use Rattle.grounds.specs.Chart.{nextValue, nextFirst};
+ghost use lib.IntN.{_+ℤ_};
+ghost use Rattle.grounds.specs.Chart.{raised, nextValue, nextFirst};
 ghost use Rattle.unit.specs.Charts.{chartOf, chartsOf, overOf};
 ghost use Rattle.unit.specs.Stretch.{FULL};
-ghost use Rattle.unit.specs.Bounds.{Roomy, Moderate, AllRoomy, AllModerate};
+ghost use Rattle.unit.specs.bounds.Numbers.{Roomy, Moderate, AllRoomy, AllModerate};
 
-// A chart's value and the first sample of the run shown.
+// A chart, the regulation's CUSUM: its value, and the first sample of the run shown.
 pub struct Chart {
     pub value: i32,
     pub first: u16,
@@ -24,22 +25,26 @@ pub struct Charts {
     pub d: Chart,
 }
 
-// The value after a contribution `x`, where `before` samples of the stretch stand before this one.
-pub fn next_value(before: u16, value: i32, x: i32) -> i32
+// A value with a contribution added. A sum below 0 becomes 0.
+fn added(value: i32, x: i32) -> i32
+    requires { ⌜ Roomy value × Moderate x ⌝ }
+    ensures { λ r. ⌜ r ≡ raised (value +ℤ x) ⌝ }
+{
+    let sum = value + x;
+    if sum < 0 { 0 } else { sum }
+}
+
+// The value after a sample that contributes `x`, where `before` samples of the stretch stand before
+// it. The first sets the chart to its contribution, negative or not; each later one adds it.
+fn next_value(before: u16, value: i32, x: i32) -> i32
     requires { ⌜ Roomy value × Moderate x ⌝ }
     ensures { λ r. ⌜ r ≡ nextValue before value x ⌝ }
 {
-    if before == 0 {
-        x
-    } else if value + x < 0 {
-        0
-    } else {
-        value + x
-    }
+    if before == 0 { x } else { added(value, x) }
 }
 
 // The first sample of the run shown after this sample.
-pub fn next_first(before: u16, value: i32, first: u16) -> u16
+fn next_first(before: u16, value: i32, first: u16) -> u16
     requires { ⌜ before < FULL ⌝ }
     ensures { λ r. ⌜ r ≡ nextFirst before value first ⌝ }
 {
@@ -52,7 +57,7 @@ pub fn next_first(before: u16, value: i32, first: u16) -> u16
     }
 }
 
-pub fn step(chart: Chart, before: u16, x: i32) -> Chart
+fn step(chart: Chart, before: u16, x: i32) -> Chart
     requires { ⌜ (before < FULL) × Roomy (chart .value) × Moderate x ⌝ }
     ensures { λ r. ⌜ r ≡ chartOf chart before x ⌝ }
 {
@@ -79,7 +84,7 @@ pub fn step_all(charts: Charts, before: u16, x: Contributions) -> Charts
     }
 }
 
-// Which of an analyte's charts are over.
+// Which of an analyte's charts are over: the value is above the limit.
 pub struct Over {
     pub p: bool,
     pub n: bool,

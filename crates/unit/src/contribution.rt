@@ -33,6 +33,8 @@ const LARGE: u32 = 25;
 // 1, in ten-thousandths.
 const WHOLE: u32 = 10_000;
 
+// What is added to the four charts of an analyte: the regulation's increments, for N with its sign
+// turned.
 pub struct Contributions {
     pub p: i32,
     pub n: i32,
@@ -88,9 +90,9 @@ pub fn negative(c: Systematic, d: i32) -> i32
 // What a size of V is held against, and the lowest and the highest contribution to V.
 const USUAL: i32 = 9;
 
-const LEAST: i32 = -4;
+const LOWEST_V: i32 = -4;
 
-const MOST: i32 = 16;
+const HIGHEST_V: i32 = 16;
 
 // To V, variability, by the difference's size.
 pub fn variable(size: u32) -> i32
@@ -98,10 +100,10 @@ pub fn variable(size: u32) -> i32
     ensures { λ r. ⌜ r ≡ variableOf size ⌝ }
 {
     let x = size as i32 - USUAL;
-    if x > LEAST {
-        if x > MOST { MOST } else { x }
+    if x > LOWEST_V {
+        if x > HIGHEST_V { HIGHEST_V } else { x }
     } else {
-        LEAST
+        LOWEST_V
     }
 }
 

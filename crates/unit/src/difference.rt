@@ -9,7 +9,7 @@ ghost use Prim.Native.Nat.{_<_, _≤_};
 ghost use lib.IntN.{pos, negℤ, natAbs};
 ghost use Rattle.line.specs.Refused.{classOf};
 ghost use Rattle.unit.specs.Difference.{CAP, valueOf, distance, sizeOf, differenceOf};
-ghost use Rattle.unit.specs.Good.{GoodMean};
+ghost use Rattle.unit.specs.bounds.Records.{GoodMean};
 
 // What a constant in the table of standardizing values is multiplied by, in ten-thousandths.
 const CONSTANT: u32 = 10_000;

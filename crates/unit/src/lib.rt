@@ -9,6 +9,7 @@ pub mod report;
 mod root;
 mod sample;
 mod set;
+mod shown;
 mod size;
 mod stage;
 pub mod standardize;
@@ -18,12 +19,13 @@ mod study;
 use event::Event;
 use line::record::Read;
 use report::Report;
-use report::full_mask;
-use report::list;
-use report::rows_for;
 use set::Set;
 use set::empty_set;
+use shown::full_mask;
+use shown::list;
+use shown::reports_for;
 use stage::APPLICANT;
+use stage::no_misses;
 use stage::refused;
 use stage::take_record;
 use stretch::Stretch;
@@ -31,19 +33,23 @@ use stretch::no_samples;
 ghost use Prim.Native.Nat.{ℕ};
 ghost use mathlib.Core.List.{List};
 ghost use mathlib.Core.Path.{_≡_};
+ghost use Rattle.line.specs.Read.{numberOf};
+ghost use Rattle.rows.specs.Rows.{Answers};
 ghost use Rattle.unit.specs.Claim.{ClaimOf};
+ghost use Rattle.unit.specs.Event.{eventByte, eventRow};
 ghost use Rattle.unit.specs.Reached.{Reached, replay};
 ghost use Rattle.unit.specs.Status.{statusOf};
-ghost use Rattle.unit.specs.Take.{newUnit, numberOf, takenOf};
+ghost use Rattle.unit.specs.Take.{newUnit, takenOf, takeRows};
 
-// The months of misses since admission: the last one, 0 where there is none, and whether two of
-// them opened probation.
+// The misses since admission: the last one's month, 0 where there is none, and whether misses opened
+// probation.
 pub struct Misses {
     last: u16,
-    two: bool,
+    opened: bool,
 }
 
-// A unit. Only `new_unit` and `take` make one.
+// A unit: its stage, the last accepted line's month, 0 where there is none, the study set under way,
+// the stretch and the misses. Only `new_unit` and `take` make one.
 pub struct Unit {
     stage: u8,
     month: u16,
@@ -59,22 +65,19 @@ pub struct Taken {
 }
 
 pub fn new_unit() -> Unit
-    ensures { λ r. ⌜ r ≡ newUnit ⌝ }
+    ensures whole { λ r. ⌜ r ≡ newUnit ⌝ }
+    ensures reached { λ r. ⌜ Reached r ⌝ }
 {
-    let misses = Misses {
-        last: 0,
-        two: false,
-    };
     Unit {
         stage: APPLICANT,
         month: 0,
         set: empty_set(),
         stretch: no_samples(),
-        misses,
+        misses: no_misses(),
     }
 }
 
-// The number of a refused reading.
+// The number of an answer: 0 for a line that was read, else the refusal's.
 fn number_of(answer: Read) -> u8
     ensures { λ n. ⌜ n ≡ numberOf answer ⌝ }
 {
@@ -84,12 +87,16 @@ fn number_of(answer: Read) -> u8
     }
 }
 
-// Takes one line, however long or garbled: the event, and the unit after it. A refusal hands the
-// unit back as it was.
+// Takes one line, however long or garbled: the event, and the unit after it.
+// `whole`: both are the definition's. `reached`: the unit is one that our calls made. `kept`: a
+// refusal hands the unit back as it was. `first`: a line is refused exactly where a row fits, with the
+// number of the first that does.
 pub fn take(unit: Unit, line: &[u8]) -> Taken
     requires { ⌜ Reached unit ⌝ }
     ensures whole { λ r. ⌜ r ≡ takenOf unit (now (line .entry)) ⌝ }
     ensures reached { λ r. ⌜ Reached (r .unit) ⌝ }
+    ensures kept { λ r. ⌜ (eventByte (r .event) ≡ 0 → r .unit ≡ unit) ⌝ }
+    ensures first { λ r. ⌜ Answers (takeRows unit (now (line .entry))) (eventRow (r .event)) ⌝ }
 {
     let answer = line::read(line);
     let Read::Whole(r) = answer else {
@@ -106,19 +113,15 @@ pub fn status(unit: Unit) -> Report
 {
     let stretch = unit.stretch;
     let misses = unit.misses;
-    let moisture = stretch.moisture;
-    let protein = stretch.protein;
-    let fat = stretch.fat;
-    let salt = stretch.salt;
-    let m = rows_for(moisture, stretch.samples);
-    let p = rows_for(protein, stretch.samples);
-    let f = rows_for(fat, stretch.samples);
-    let s = rows_for(salt, stretch.samples);
+    let m = reports_for(stretch.samples, stretch.moisture);
+    let p = reports_for(stretch.samples, stretch.protein);
+    let f = reports_for(stretch.samples, stretch.fat);
+    let s = reports_for(stretch.samples, stretch.salt);
     Report {
         stage: unit.stage,
         samples: stretch.samples,
         mask: full_mask(m, p, f, s),
-        misses: misses.two,
-        rows: list(m, p, f, s),
+        misses: misses.opened,
+        charts: list(m, p, f, s),
     }
 }

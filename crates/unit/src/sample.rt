@@ -10,7 +10,7 @@ ghost use Prim.Native.Nat.{_<_};
 ghost use Rattle.line.specs.Percent.{amountOf};
 ghost use Rattle.line.specs.Refused.{classOf};
 ghost use Rattle.unit.specs.Sample.{monthOf, isLost, missed, countOf, differenceFor, differencesOf};
-ghost use Rattle.unit.specs.Good.{GoodRecord, GoodMean};
+ghost use Rattle.unit.specs.bounds.Records.{GoodRecord, GoodMean};
 
 // The standardized differences of the four analytes.
 pub struct Differences {
@@ -60,7 +60,7 @@ fn count(reading: Reading) -> u16
     n
 }
 
-fn difference(product: u8, analyte: u8, mean: u16, reading: Reading) -> Difference
+pub fn difference(product: u8, analyte: u8, mean: u16, reading: Reading) -> Difference
     requires { ⌜ (analyte < 4) × GoodMean (classOf product) analyte mean ⌝ }
     ensures { λ d. ⌜ d ≡ differenceFor product analyte mean reading ⌝ }
 {

@@ -7,7 +7,7 @@ use crate::study::set_passes;
 ghost use mathlib.Core.Path.{_≡_};
 ghost use Prim.Native.Nat.{_<_};
 ghost use Rattle.unit.specs.Set.{emptySet, enteredOf, passesSet};
-ghost use Rattle.unit.specs.Bounds.{HeldSums, Capped};
+ghost use Rattle.unit.specs.bounds.Numbers.{SetBounded, Capped};
 ghost use Rattle.unit.specs.Study.{SET};
 
 // The sums of the four analytes over the set's lines so far.
@@ -34,34 +34,22 @@ pub fn empty_set() -> Set
 
 // One more line of a set that is not full.
 pub fn entered(s: Set, d: Differences) -> Set
-    requires { ⌜ (s .lines < SET) × HeldSums s × Capped d ⌝ }
+    requires { ⌜ (s .lines < SET) × SetBounded s × Capped d ⌝ }
     ensures { λ r. ⌜ r ≡ enteredOf s d ⌝ }
 {
-    let moisture = s.moisture;
-    let protein = s.protein;
-    let fat = s.fat;
-    let salt = s.salt;
-    let dm = d.moisture;
-    let dp = d.protein;
-    let df = d.fat;
-    let ds = d.salt;
     Set {
         lines: s.lines + 1,
-        moisture: add(moisture, dm),
-        protein: add(protein, dp),
-        fat: add(fat, df),
-        salt: add(salt, ds),
+        moisture: add(s.moisture, d.moisture),
+        protein: add(s.protein, d.protein),
+        fat: add(s.fat, d.fat),
+        salt: add(s.salt, d.salt),
     }
 }
 
 // Whether a full set passes.
 pub fn passes_set(s: Set) -> bool
-    requires { ⌜ (s .lines ≡ SET) × HeldSums s ⌝ }
+    requires { ⌜ (s .lines ≡ SET) × SetBounded s ⌝ }
     ensures { λ r. ⌜ r ≡ passesSet s ⌝ }
 {
-    let moisture = s.moisture;
-    let protein = s.protein;
-    let fat = s.fat;
-    let salt = s.salt;
-    set_passes(moisture, protein, fat, salt)
+    set_passes(s.moisture, s.protein, s.fat, s.salt)
 }

@@ -18,17 +18,18 @@ use crate::study::LINES;
 use line::record::MAINTENANCE;
 use line::record::Record;
 use line::record::STUDY;
+use rows::first_of;
 ghost use mathlib.Core.Path.{_≡_};
 ghost use mathlib.Core.Bool.{true};
 ghost use Prim.Native.Nat.{_≤_};
 ghost use lib.Dec.{eqb};
-ghost use Rattle.grounds.specs.Miss.{again};
-ghost use Rattle.line.specs.Refused.{firstRow};
-ghost use Rattle.unit.specs.Good.{GoodRecord};
+ghost use Rattle.grounds.specs.Earlier.{again};
+ghost use Rattle.rows.specs.Rows.{firstRow};
+ghost use Rattle.unit.specs.bounds.Records.{GoodRecord};
 ghost use Rattle.unit.specs.Study.{SET};
 ghost use Rattle.unit.specs.Stretch.{anyOver};
-ghost use Rattle.unit.specs.Take.{unitRowsOf, unitRows, refusedOf, missedBy, sampleBy, failedStage, judgedBy, studyBy, recordOf};
-ghost use Rattle.unit.specs.Bounds.{Bounded, LAST, HeldSums};
+ghost use Rattle.unit.specs.Take.{unitRows, refusedOf, noMisses, takenAs, missedBy, sampleBy, failedStage, judgedBy, studyBy, takenRecord};
+ghost use Rattle.unit.specs.bounds.Numbers.{Bounded, LAST-MONTH, SetBounded};
 
 // The stages.
 pub const APPLICANT: u8 = 0;
@@ -57,28 +58,6 @@ const ROW_GAP: u8 = 11;
 
 const ROW_FULL: u8 = 12;
 
-// The number of the first row that fits, or 0.
-fn first_of(closed: bool, stage: bool, backdated: bool, gap: bool, full: bool) -> u8
-    ensures { λ r. ⌜ r ≡ firstRow (unitRowsOf closed stage backdated gap full) ⌝ }
-{
-    if closed {
-        return ROW_CLOSED;
-    }
-    if stage {
-        return ROW_STAGE;
-    }
-    if backdated {
-        return ROW_BACKDATED;
-    }
-    if gap {
-        return ROW_GAP;
-    }
-    if full {
-        return ROW_FULL;
-    }
-    0
-}
-
 // The first of rows 8 to 12 that fits, or 0.
 fn first_row(u: Unit, r: Record) -> u8
     requires { ⌜ GoodRecord r ⌝ }
@@ -92,7 +71,14 @@ fn first_row(u: Unit, r: Record) -> u8
     let gap = (r.kind == STUDY) & missed;
     let full = ((r.kind == MAINTENANCE) & !missed)
         & ((r.year == stretch.year) & (FULL <= stretch.samples));
-    first_of(u.stage == CLOSED, stage, month < u.month, gap, full)
+    first_of(
+        [ROW_CLOSED, ROW_STAGE, ROW_BACKDATED, ROW_GAP, ROW_FULL],
+        u.stage == CLOSED,
+        stage,
+        month < u.month,
+        gap,
+        full,
+    )
 }
 
 // A refusal hands the unit back as it was.
@@ -105,37 +91,24 @@ pub fn refused(u: Unit, n: u8) -> Taken
     }
 }
 
-fn missed_line(u: Unit, month: u16) -> Taken
-    requires { ⌜ u .misses .last ≤ LAST ⌝ }
-    ensures { λ t. ⌜ t ≡ missedBy (again (u .misses .last) month) u month ⌝ }
+// No miss since admission: month 0, which no line has.
+pub fn no_misses() -> Misses
+    ensures { λ r. ⌜ r ≡ noMisses ⌝ }
 {
-    let set = u.set;
-    let stretch = u.stretch;
-    let before = u.misses;
-    if month <= before.last + WINDOW {
-        let misses = Misses {
-            last: month,
-            two: true,
-        };
-        return Taken {
-            event: Event::ByMisses,
-            unit: Unit {
-                stage: PROBATION,
-                month,
-                set,
-                stretch,
-                misses,
-            },
-        };
+    Misses {
+        last: 0,
+        opened: false,
     }
-    let misses = Misses {
-        last: month,
-        two: before.two,
-    };
+}
+
+// What an accepted line leaves.
+fn taken(event: Event, stage: u8, month: u16, set: Set, stretch: Stretch, misses: Misses) -> Taken
+    ensures { λ t. ⌜ t ≡ takenAs event stage month set stretch misses ⌝ }
+{
     Taken {
-        event: Event::Missed,
+        event,
         unit: Unit {
-            stage: u.stage,
+            stage,
             month,
             set,
             stretch,
@@ -144,33 +117,32 @@ fn missed_line(u: Unit, month: u16) -> Taken
     }
 }
 
+fn missed_line(u: Unit, month: u16) -> Taken
+    requires { ⌜ u .misses .last ≤ LAST-MONTH ⌝ }
+    ensures { λ t. ⌜ t ≡ missedBy (again (u .misses .last) month) u month ⌝ }
+{
+    let before = u.misses;
+    if month <= before.last + WINDOW {
+        let misses = Misses {
+            last: month,
+            opened: true,
+        };
+        return taken(Event::ByMisses, PROBATION, month, u.set, u.stretch, misses);
+    }
+    let misses = Misses {
+        last: month,
+        opened: before.opened,
+    };
+    taken(Event::Missed, u.stage, month, u.set, u.stretch, misses)
+}
+
 fn sample_line(u: Unit, month: u16, stretch: Stretch) -> Taken
     ensures { λ t. ⌜ t ≡ sampleBy (anyOver stretch) u month stretch ⌝ }
 {
-    let set = u.set;
-    let misses = u.misses;
     if any_over(stretch) {
-        return Taken {
-            event: Event::ByCharts,
-            unit: Unit {
-                stage: PROBATION,
-                month,
-                set,
-                stretch,
-                misses,
-            },
-        };
+        return taken(Event::ByCharts, PROBATION, month, u.set, stretch, u.misses);
     }
-    Taken {
-        event: Event::Sample,
-        unit: Unit {
-            stage: u.stage,
-            month,
-            set,
-            stretch,
-            misses,
-        },
-    }
+    taken(Event::Sample, u.stage, month, u.set, stretch, u.misses)
 }
 
 // The stage after a failed set.
@@ -185,60 +157,47 @@ fn judged(u: Unit, month: u16, passed: bool) -> Taken
     ensures { λ t. ⌜ t ≡ judgedBy passed u month ⌝ }
 {
     if passed {
-        let misses = Misses {
-            last: 0,
-            two: false,
-        };
-        return Taken {
-            event: Event::Passed,
-            unit: Unit {
-                stage: ACCREDITED,
-                month,
-                set: empty_set(),
-                stretch: no_samples(),
-                misses,
-            },
-        };
-    }
-    let stretch = u.stretch;
-    let misses = u.misses;
-    Taken {
-        event: Event::Failed,
-        unit: Unit {
-            stage: after_failure(u.stage),
+        return taken(
+            Event::Passed,
+            ACCREDITED,
             month,
-            set: empty_set(),
-            stretch,
-            misses,
-        },
+            empty_set(),
+            no_samples(),
+            no_misses(),
+        );
     }
+    let stage = after_failure(u.stage);
+    taken(
+        Event::Failed,
+        stage,
+        month,
+        empty_set(),
+        u.stretch,
+        u.misses,
+    )
 }
 
 fn study_line(u: Unit, month: u16, set: Set) -> Taken
-    requires { ⌜ HeldSums set ⌝ }
+    requires { ⌜ SetBounded set ⌝ }
     ensures { λ t. ⌜ t ≡ studyBy (eqb (set .lines) SET) u month set ⌝ }
 {
     if set.lines == LINES {
         return judged(u, month, passes_set(set));
     }
-    let stretch = u.stretch;
-    let misses = u.misses;
-    Taken {
-        event: Event::UnderWay(set.lines),
-        unit: Unit {
-            stage: u.stage,
-            month,
-            set,
-            stretch,
-            misses,
-        },
-    }
+    taken(
+        Event::UnderWay(set.lines),
+        u.stage,
+        month,
+        set,
+        u.stretch,
+        u.misses,
+    )
 }
 
 // A record that was read.
 pub fn take_record(u: Unit, r: Record) -> Taken
     requires { ⌜ Bounded u × GoodRecord r ⌝ }
-    ensures { λ t. ⌜ t ≡ recordOf u r ⌝ }
+    ensures { λ t. ⌜ t ≡ takenRecord u r ⌝ }
 {
     let row = first_row(u, r);
     if row != 0 {
@@ -246,12 +205,10 @@ pub fn take_record(u: Unit, r: Record) -> Taken
     }
     let month = month_of(r);
     if r.kind == STUDY {
-        let set = u.set;
-        return study_line(u, month, entered(set, find_differences(r)));
+        return study_line(u, month, entered(u.set, find_differences(r)));
     }
     if is_missed(r) {
         return missed_line(u, month);
     }
-    let stretch = u.stretch;
-    sample_line(u, month, sampled(stretch, r.year, find_differences(r)))
+    sample_line(u, month, sampled(u.stretch, r))
 }

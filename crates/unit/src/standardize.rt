@@ -13,11 +13,12 @@ use line::refusal::READING;
 ghost use mathlib.Core.Path.{_≡_};
 ghost use Prim.Native.Nat.{_<_};
 ghost use Rattle.line.specs.Refused.{classOf};
-ghost use Rattle.unit.specs.Good.{leastMean, GoodMean};
-ghost use Rattle.unit.specs.Standardize.{rowOf, standardizedOf};
+ghost use Rattle.unit.specs.Standardize.{leastMean, figuresOf, standardizedOf};
+ghost use Rattle.unit.specs.bounds.Records.{GoodMean};
 
-// In ten-millionths of a percent; in tenths; in tenths, and for `d` in ten-thousandths.
-pub struct Row {
+// What a reading comes to: the value in ten-millionths of a percent, the difference in tenths, and the
+// contributions, in tenths, for `d` in ten-thousandths.
+pub struct Figures {
     pub value: u32,
     pub difference: i32,
     pub p: i32,
@@ -28,7 +29,7 @@ pub struct Row {
 
 pub enum Standardized {
     Refused(u8),
-    Given(Row),
+    Given(Figures),
 }
 
 // The least mean of an analyte that a valid line of the class has.
@@ -42,15 +43,15 @@ fn least_mean(class: u8, analyte: u8) -> u16
     }
 }
 
-// The row of a mean that a valid line can have.
-fn fill(product: u8, analyte: u8, mean: u16, reading: u16) -> Row
+// The figures of a mean that a valid line can have.
+fn fill(product: u8, analyte: u8, mean: u16, reading: u16) -> Figures
     requires { ⌜ (analyte < 4) × GoodMean (classOf product) analyte mean ⌝ }
-    ensures { λ r. ⌜ r ≡ rowOf product analyte mean reading ⌝ }
+    ensures { λ r. ⌜ r ≡ figuresOf product analyte mean reading ⌝ }
 {
     let s = value(product, analyte, mean);
     let d = standardized(reading as u32, mean as u32, s);
     let c = contribute(FOOD, d);
-    Row {
+    Figures {
         value: s,
         difference: d.tenths,
         p: c.p,

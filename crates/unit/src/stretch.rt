@@ -3,12 +3,18 @@ use crate::chart::Chart;
 use crate::chart::Charts;
 use crate::chart::find_over;
 use crate::chart::step_all;
+use crate::contribution::Contributions;
 use crate::contribution::FOOD;
 use crate::contribution::contribute;
-use crate::sample::Differences;
+use crate::sample::difference;
+use line::record::Reading;
+use line::record::Record;
 ghost use mathlib.Core.Path.{_≡_};
 ghost use Prim.Native.Nat.{_<_};
-ghost use Rattle.unit.specs.Bounds.{HeldStretch, Capped};
+ghost use Rattle.line.specs.Refused.{classOf};
+ghost use Rattle.unit.specs.Sample.{contributionsFor, contributedBy};
+ghost use Rattle.unit.specs.bounds.Numbers.{StretchBounded};
+ghost use Rattle.unit.specs.bounds.Records.{GoodMean, GoodRecord};
 ghost use Rattle.unit.specs.Stretch.{noCharts, noSamples, earlier, sampledOf, overIn, anyOver, FULL};
 
 // The charts of moisture, protein, fat and salt.
@@ -33,7 +39,7 @@ fn no_charts() -> Charts
     }
 }
 
-// No sample since admission.
+// No sample since admission: year 0, which no line has.
 pub fn no_samples() -> Stretch
     ensures { λ r. ⌜ r ≡ noSamples ⌝ }
 {
@@ -49,33 +55,51 @@ pub fn no_samples() -> Stretch
 }
 
 // The samples of this year's stretch before a sample of the year.
-pub fn samples_before(s: Stretch, year: u16) -> u16
+fn samples_before(s: Stretch, year: u16) -> u16
     ensures { λ r. ⌜ r ≡ earlier s year ⌝ }
 {
     if year == s.year { s.samples } else { 0 }
 }
 
-// The stretch after a sample, which opens a new one where the year is another.
-pub fn sampled(s: Stretch, year: u16, d: Differences) -> Stretch
-    requires { ⌜ (earlier s year < FULL) × HeldStretch s × Capped d ⌝ }
-    ensures { λ r. ⌜ r ≡ sampledOf s year d ⌝ }
+// What a reading contributes to its analyte's four charts.
+fn contribute_reading(product: u8, analyte: u8, mean: u16, reading: Reading) -> Contributions
+    requires { ⌜ (analyte < 4) × GoodMean (classOf product) analyte mean ⌝ }
+    ensures { λ x. ⌜ x ≡ contributionsFor product analyte mean reading ⌝ }
 {
-    let n = samples_before(s, year);
-    let moisture = s.moisture;
-    let protein = s.protein;
-    let fat = s.fat;
-    let salt = s.salt;
-    let dm = d.moisture;
-    let dp = d.protein;
-    let df = d.fat;
-    let ds = d.salt;
+    contribute(FOOD, difference(product, analyte, mean, reading))
+}
+
+// The stretch after a sample, which opens a new one where the year is another.
+pub fn sampled(s: Stretch, r: Record) -> Stretch
+    requires { ⌜ (earlier s (r .year) < FULL) × StretchBounded s × GoodRecord r ⌝ }
+    ensures { λ t. ⌜ t ≡ sampledOf s (r .year) (contributedBy r) ⌝ }
+{
+    let n = samples_before(s, r.year);
+    let means = r.means;
+    let readings = r.readings;
+    let moisture = readings.moisture;
+    let protein = readings.protein;
+    let fat = readings.fat;
+    let salt = readings.salt;
     Stretch {
-        year,
+        year: r.year,
         samples: n + 1,
-        moisture: step_all(moisture, n, contribute(FOOD, dm)),
-        protein: step_all(protein, n, contribute(FOOD, dp)),
-        fat: step_all(fat, n, contribute(FOOD, df)),
-        salt: step_all(salt, n, contribute(FOOD, ds)),
+        moisture: step_all(
+            s.moisture,
+            n,
+            contribute_reading(r.product, 0, means.moisture, moisture),
+        ),
+        protein: step_all(
+            s.protein,
+            n,
+            contribute_reading(r.product, 1, means.protein, protein),
+        ),
+        fat: step_all(s.fat, n, contribute_reading(r.product, 2, means.fat, fat)),
+        salt: step_all(
+            s.salt,
+            n,
+            contribute_reading(r.product, 3, means.salt, salt),
+        ),
     }
 }
 
@@ -90,9 +114,5 @@ fn over_in(charts: Charts) -> bool
 pub fn any_over(s: Stretch) -> bool
     ensures { λ r. ⌜ r ≡ anyOver s ⌝ }
 {
-    let moisture = s.moisture;
-    let protein = s.protein;
-    let fat = s.fat;
-    let salt = s.salt;
-    over_in(moisture) | over_in(protein) | over_in(fat) | over_in(salt)
+    over_in(s.moisture) | over_in(s.protein) | over_in(s.fat) | over_in(s.salt)
 }

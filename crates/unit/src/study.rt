@@ -7,7 +7,7 @@ ghost use Prim.Native.Nat.{_-_, _≤_};
 ghost use lib.IntN.{natAbs};
 ghost use Rattle.unit.specs.Difference.{CAP};
 ghost use Rattle.unit.specs.Study.{noSums, addedOf, passesOf, setPasses, SET};
-ghost use Rattle.unit.specs.Bounds.{Held};
+ghost use Rattle.unit.specs.bounds.Numbers.{SumsBounded};
 
 // Of the differences d: the sum, the sum of the squares, and the sum of the measures.
 pub struct Sums {
@@ -24,7 +24,7 @@ pub fn empty() -> Sums
 
 // One more line of a set that is not full.
 pub fn add(sums: Sums, d: Difference) -> Sums
-    requires { ⌜ Held (SET - 1) sums × (natAbs (d .tenths) ≤ CAP) ⌝ }
+    requires { ⌜ SumsBounded (SET - 1) sums × (natAbs (d .tenths) ≤ CAP) ⌝ }
     ensures { λ r. ⌜ r ≡ addedOf sums (d .tenths) ⌝ }
 {
     let size = size(d.tenths);
@@ -52,7 +52,7 @@ const DEVIATION: u32 = 18_000;
 
 // Whether an analyte passes a full set. The square of the sum, which the spread subtracts, is added on the other side.
 pub fn passes(sums: Sums) -> bool
-    requires { ⌜ Held SET sums ⌝ }
+    requires { ⌜ SumsBounded SET sums ⌝ }
     ensures { λ r. ⌜ r ≡ passesOf sums ⌝ }
 {
     let size = size(sums.s) as u64;
@@ -72,15 +72,8 @@ pub fn passes(sums: Sums) -> bool
 
 // Whether a set passes: all four analytes do.
 pub fn set_passes(moisture: Sums, protein: Sums, fat: Sums, salt: Sums) -> bool
-    requires { ⌜ Held SET moisture × Held SET protein × Held SET fat × Held SET salt ⌝ }
+    requires { ⌜ SumsBounded SET moisture × SumsBounded SET protein × SumsBounded SET fat × SumsBounded SET salt ⌝ }
     ensures { λ r. ⌜ r ≡ setPasses moisture protein fat salt ⌝ }
 {
-    if passes(moisture) {
-        if passes(protein) {
-            if passes(fat) {
-                return passes(salt);
-            }
-        }
-    }
-    false
+    passes(moisture) & passes(protein) & passes(fat) & passes(salt)
 }

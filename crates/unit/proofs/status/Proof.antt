@@ -15,17 +15,17 @@ use Rattle.unit.proofs.status.Tie as tie
 both : (u : U.Unit) (r : Report) → r ≡ statusOf u → (r ≡ statusOf u) × ((ls : List (List ℕ)) → replay ls ≡ u → ClaimOf ls r)
 both u r e = (e, λ ls k. subst (ClaimOf ls) (sym e) (claim-holds ls u k))
 
-rows-for-requires : tie.Need-rows-for-requires
-rows-for-requires c κs = search needs
+reports-for-requires : tie.Need-reports-for-requires
+reports-for-requires c κs = search needs
 
-rows-for-requires-2 : tie.Need-rows-for-requires-2
-rows-for-requires-2 c κs = search needs
+reports-for-requires-2 : tie.Need-reports-for-requires-2
+reports-for-requires-2 c κs = search needs
 
-rows-for-requires-3 : tie.Need-rows-for-requires-3
-rows-for-requires-3 c κs = search needs
+reports-for-requires-3 : tie.Need-reports-for-requires-3
+reports-for-requires-3 c κs = search needs
 
-rows-for-requires-4 : tie.Need-rows-for-requires-4
-rows-for-requires-4 c κs = search needs
+reports-for-requires-4 : tie.Need-reports-for-requires-4
+reports-for-requires-4 c κs = search needs
 
 full-mask-requires : tie.Need-full-mask-requires
 full-mask-requires c κs = search needs
@@ -35,17 +35,22 @@ list-requires c κs = search needs
 
 returns : tie.Need-returns
 returns c =
-    let u = c .before .before .before .before .before .before .before .before .before .before .before .before .args .unit in
-    both u _ (reported u (c .before .before .before .before .before .rows-for .ensures) (c .before .before .before .before .rows-for2 .ensures) (c .before .before .before .rows-for3 .ensures) (c .before .before .rows-for4 .ensures) (c .before .full-mask .ensures) (c .list .ensures))
+    let mask = c .before in
+    let s = mask .before in
+    let f = s .before in
+    let p = f .before in
+    let m = p .before in
+    let u = m .before .before .before .args .unit in
+    both u _ (reported u (m .reports-for .ensures) (p .reports-for2 .ensures) (f .reports-for3 .ensures) (s .reports-for4 .ensures) (mask .full-mask .ensures) (c .list .ensures))
 
 pub status-spec : {M : Type 1} → statement M
 status-spec =
     tie.close
     (tie.spec
-    rows-for-requires
-    rows-for-requires-2
-    rows-for-requires-3
-    rows-for-requires-4
+    reports-for-requires
+    reports-for-requires-2
+    reports-for-requires-3
+    reports-for-requires-4
     full-mask-requires
     list-requires
     returns)

@@ -22,7 +22,7 @@ returns c =
     let r : toZ w32 (ofZ w32 (v .next-value .result)) ≡ v .next-value .result = toZ-ofZ (search needs) in
     let old : toZ w32 (ofZ w32 (s .args .chart .value)) ≡ s .args .chart .value = back (s .args .chart .value) (omega arith) in
     let x : toZ w32 (ofZ w32 (s .args .x)) ≡ s .args .x = back (s .args .x) (omega arith) in
-    rw (r, v .next-value .ensures, c .next-first .ensures, old, x)
+    rw (r, v .next-value .ensures, c .next-first .ensures) (simp (old, x))
 
 pub step-spec : {M : Type 1} → statement M
 step-spec = tie.close (tie.spec next-value-requires next-first-requires returns)

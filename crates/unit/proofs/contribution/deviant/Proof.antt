@@ -7,7 +7,7 @@ use mir.Syntax.{w32}
 use mir.Val.{toZ}
 use Rattle.laws.proofs.Word.{word, back, nat, abs-minus}
 use Rattle.unit.proofs.Bounds.{measure-small}
-use Rattle.unit.specs.Bounds.{LARGEST}
+use Rattle.unit.specs.bounds.Numbers.{LARGEST}
 use Rattle.unit.specs.Contribution.{measureOf, deviantOf}
 use borrow.Author.Needs.{needs}
 use Rattle.unit.proofs.contribution.deviant.Statement.{statement}

@@ -80,7 +80,7 @@ returns c =
     let q = c .before .before .loop2 .q in
     let above : rooted (start .args .m) < (q + 1) ^ 4 = omega (arith, c .before .fourth2 .ensures, c .if2 .left) in
     unique 4 (rooted (start .args .m))
-    (record { within = c .before .before .loop2 .inv .0; largest = subst (λ (n : ℕ). rooted (start .args .m) < n ^ 4) (add-one q) above })
+    (record { within = c .before .before .loop2 .inv .0; next = subst (λ (n : ℕ). rooted (start .args .m) < n ^ 4) (add-one q) above })
     (root-right (start .args .m) (start .pre))
 
 pub root-spec : {M : Type 1} → statement M

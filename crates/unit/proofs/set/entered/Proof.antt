@@ -8,8 +8,8 @@ use Rattle.unit.specs.declared.study.Sums.{Sums}
 use Rattle.unit.proofs.set.entered.Statement.{statement}
 use Rattle.unit.proofs.set.entered.Tie as tie
 
-add-t11 : tie.Need-add-t11
-add-t11 c = search needs
+add-t3 : tie.Need-add-t3
+add-t3 c = search needs
 
 add-requires : tie.Need-add-requires
 add-requires c κs = search needs
@@ -30,8 +30,8 @@ gathered n em ep ef et = rw (em, ep, ef, et, add-one n)
 
 returns : tie.Need-returns
 returns c =
-    gathered (c .before .before .before .before .before .before .before .before .before .before .before .before .before .args .s .lines) (c .before .before .before .add .ensures) (c .before .before .add2 .ensures) (c .before .add3 .ensures) (c .add4 .ensures)
+    gathered (c .before .before .before .before .before .args .s .lines) (c .before .before .before .add .ensures) (c .before .before .add2 .ensures) (c .before .add3 .ensures) (c .add4 .ensures)
 
 pub entered-spec : {M : Type 1} → statement M
 entered-spec =
-    tie.close (tie.spec add-t11 add-requires add-requires-2 add-requires-3 add-requires-4 returns)
+    tie.close (tie.spec add-t3 add-requires add-requires-2 add-requires-3 add-requires-4 returns)

@@ -1,14 +1,20 @@
 -- `judged` meets its contract, by whether the set passed. Assumes nothing.
-use mathlib.Core.Path.{sym, ap, ap₂, _∙_}
+use mathlib.Core.Path.{_≡_, refl, sym, ap, _∙_}
 use mathlib.Core.Bool.{Bool}
 use Prim.Native.Nat.{ℕ}
-use Rattle.unit.specs.Take.{noMisses, ACCREDITED, judgedBy}
+use Rattle.unit.specs.Take.{takenAs, judgedBy}
+use Rattle.unit.specs.declared.Misses.{Misses}
+use Rattle.unit.specs.declared.event.Event.{Event}
 use Rattle.unit.specs.declared.set.Set.{Set}
 use Rattle.unit.specs.declared.stretch.Stretch.{Stretch}
-use Rattle.unit.specs.declared.event.Event.the-variants.{Passed, Failed}
 use borrow.Author.Needs.{needs}
 use Rattle.unit.proofs.stage.judged.Statement.{statement}
 use Rattle.unit.proofs.stage.judged.Tie as tie
+
+-- what is left, part by part
+left : (e : Event) (month : ℕ) {stage stage′ : ℕ} {set set′ : Set} {stretch stretch′ : Stretch} {misses misses′ : Misses} → stage ≡ stage′ → set ≡ set′
+    → stretch ≡ stretch′ → misses ≡ misses′ → takenAs e stage month set stretch misses ≡ takenAs e stage′ month set′ stretch′ misses′
+left e month es et ss ms = rw (es, et, ss, ms)
 
 empty-set-requires : tie.Need-empty-set-requires
 empty-set-requires c κs = search needs
@@ -16,14 +22,20 @@ empty-set-requires c κs = search needs
 no-samples-requires : tie.Need-no-samples-requires
 no-samples-requires c κs = search needs
 
+no-misses-requires : tie.Need-no-misses-requires
+no-misses-requires c κs = search needs
+
+taken-requires : tie.Need-taken-requires
+taken-requires c κs = search needs
+
 returns : tie.Need-returns
 returns c =
-    let a = c .before .before .before .args in
-    ap₂
-    (λ (set : Set) (stretch : Stretch). record { event = Passed; unit = record { stage = ACCREDITED; month = a .month; set = set; stretch = stretch; misses = noMisses } })
-    (c .before .empty-set .ensures)
-    (c .no-samples .ensures)
-    ∙ ap (λ (b : Bool). judgedBy b (a .u) (a .month)) (sym (c .before .before .if1 .taken))
+    let n = c .before in
+    let s = n .before in
+    let e = s .before in
+    let a = e .before .before .args in
+    c .taken .ensures ∙ left _ _ refl (e .empty-set .ensures) (s .no-samples .ensures) (n .no-misses .ensures)
+    ∙ ap (λ (b : Bool). judgedBy b (a .u) (a .month)) (sym (e .before .if1 .taken))
 
 after-failure-requires : tie.Need-after-failure-requires
 after-failure-requires c κs = search needs
@@ -31,22 +43,16 @@ after-failure-requires c κs = search needs
 empty-set-requires-2 : tie.Need-empty-set-requires-2
 empty-set-requires-2 c κs = search needs
 
+taken-requires-2 : tie.Need-taken-requires-2
+taken-requires-2 c κs = search needs
+
 returns-2 : tie.Need-returns-2
 returns-2 c =
-    let a = c .before .before .before .before .before .args in
-    ap₂
-    (λ (stage : ℕ) (set : Set). record { event = Failed; unit = record { stage = stage; month = a .month; set = set; stretch = a .u .stretch; misses = a .u .misses } })
-    (c .before .after-failure .ensures)
-    (c .empty-set2 .ensures)
-    ∙ ap (λ (b : Bool). judgedBy b (a .u) (a .month)) (sym (c .before .before .before .before .if1 .left))
+    let e = c .before in
+    let f = e .before in
+    let a = f .before .before .args in
+    c .taken2 .ensures ∙ left _ _ (f .after-failure .ensures) (e .empty-set2 .ensures) refl refl
+    ∙ ap (λ (b : Bool). judgedBy b (a .u) (a .month)) (sym (f .before .if1 .left))
 
 pub judged-spec : {M : Type 1} → statement M
-judged-spec =
-    tie.close
-    (tie.spec
-    empty-set-requires
-    no-samples-requires
-    returns
-    after-failure-requires
-    empty-set-requires-2
-    returns-2)
+judged-spec = tie.close (tie.spec empty-set-requires no-samples-requires no-misses-requires taken-requires returns after-failure-requires empty-set-requires-2 taken-requires-2 returns-2)

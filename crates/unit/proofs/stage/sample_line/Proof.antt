@@ -9,11 +9,21 @@ use Rattle.unit.proofs.stage.sample_line.Tie as tie
 any-over-requires : tie.Need-any-over-requires
 any-over-requires c κs = search needs
 
+taken-requires : tie.Need-taken-requires
+taken-requires c κs = search needs
+
 returns : tie.Need-returns
-returns c = ap (λ (b : Bool). sampleBy b (c .before .before .before .before .args .u) (c .before .before .before .before .args .month) (c .before .before .before .before .args .stretch)) (sym (c .if1 .taken) ∙ c .before .any-over .ensures)
+returns c =
+    let a = c .before .before .before .args in
+    c .taken .ensures ∙ ap (λ (b : Bool). sampleBy b (a .u) (a .month) (a .stretch)) (sym (c .before .if1 .taken) ∙ c .before .before .any-over .ensures)
+
+taken-requires-2 : tie.Need-taken-requires-2
+taken-requires-2 c κs = search needs
 
 returns-2 : tie.Need-returns-2
-returns-2 c = ap (λ (b : Bool). sampleBy b (c .before .before .before .before .args .u) (c .before .before .before .before .args .month) (c .before .before .before .before .args .stretch)) (sym (c .if1 .left) ∙ c .before .any-over .ensures)
+returns-2 c =
+    let a = c .before .before .before .args in
+    c .taken2 .ensures ∙ ap (λ (b : Bool). sampleBy b (a .u) (a .month) (a .stretch)) (sym (c .before .if1 .left) ∙ c .before .before .any-over .ensures)
 
 pub sample-line-spec : {M : Type 1} → statement M
-sample-line-spec = tie.close (tie.spec any-over-requires returns returns-2)
+sample-line-spec = tie.close (tie.spec any-over-requires taken-requires returns taken-requires-2 returns-2)

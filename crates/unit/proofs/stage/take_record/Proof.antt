@@ -1,18 +1,19 @@
--- `take_record` meets its contract: each return is a case of `recordOf`. Assumes nothing.
+-- `take_record` meets its contract: each return is a case of `takenRecord`. Assumes nothing.
 use mathlib.Core.Path.{_≡_, sym, ap, ap₂, subst, _∙_}
 use mathlib.Core.Logic.{⊎-elim}
 use Prim.Native.Nat.{ℕ}
 use lib.Dec.{eqb}
-use Rattle.grounds.specs.Miss.{again}
-use Rattle.line.specs.Refused.{firstRow, MAINTENANCE}
+use Rattle.grounds.specs.Earlier.{again}
+use Rattle.rows.specs.Rows.{firstRow}
+use Rattle.line.specs.Refused.{MAINTENANCE}
 use Rattle.unit.specs.Set.{enteredOf}
-use Rattle.unit.specs.Bounds.{HeldSums, Capped}
+use Rattle.unit.specs.bounds.Numbers.{SetBounded, Capped}
 use Rattle.unit.specs.Study.{SET}
-use Rattle.unit.specs.Stretch.{anyOver, sampledOf}
+use Rattle.unit.specs.Stretch.{anyOver}
 use Rattle.unit.specs.Take.{unitRows, missedBy, sampleBy, studyBy}
 use Rattle.unit.specs.declared.set.Set.{Set}
 use Rattle.unit.specs.declared.stretch.Stretch.{Stretch}
-use Rattle.unit.proofs.Taking.{refused-row, accepted-study, accepted-missed, accepted-sample, is-open, room, capped, entered-held}
+use Rattle.unit.proofs.Taking.{refused-row, accepted-study, accepted-missed, accepted-sample, is-open, room, capped, entered-bounded}
 use borrow.Author.Needs.{needs}
 use Rattle.unit.proofs.stage.take_record.Statement.{statement}
 use Rattle.unit.proofs.stage.take_record.Tie as tie
@@ -26,7 +27,7 @@ kind : (c : tie.Else2) → c .before .before .before .before .before .args .r .k
 kind c = ⊎-elim (λ k. k) (λ k. absurd (c .if2 .left k)) (c .before .before .before .before .before .pre .1 .kind)
 
 found : (c : tie.After-find-differences) → Capped (c .find-differences .result)
-found c = subst Capped (sym (c .find-differences .ensures)) (capped (c .before .before .before .before .before .before .before .args .r))
+found c = subst Capped (sym (c .find-differences .ensures)) (capped (c .before .before .before .before .before .before .args .r))
 
 first-row-requires : tie.Need-first-row-requires
 first-row-requires c κs = search needs
@@ -35,7 +36,9 @@ refused-requires : tie.Need-refused-requires
 refused-requires c κs = search needs
 
 returns : tie.Need-returns
-returns c = c .refused .ensures ∙ refused-row (c .before .before .before .args .u) (c .before .before .before .args .r) (c .before .before .first-row .result) (c .before .before .first-row .ensures) (c .before .if1 .taken)
+returns c =
+    let a = c .before .before .before .args in
+    c .refused .ensures ∙ refused-row (a .u) (a .r) (c .before .before .first-row .result) (c .before .before .first-row .ensures) (c .before .if1 .taken)
 
 month-of-requires : tie.Need-month-of-requires
 month-of-requires c κs = search needs
@@ -44,18 +47,21 @@ find-differences-requires : tie.Need-find-differences-requires
 find-differences-requires c κs = search needs
 
 entered-requires : tie.Need-entered-requires
-entered-requires c κs = (c .before .before .before .before .before .before .before .pre .0 .lines, c .before .before .before .before .before .before .before .pre .0 .sums, found c)
+entered-requires c κs = let p = c .before .before .before .before .before .before .pre .0 in (p .lines, p .sums, found c)
 
 study-line-requires : tie.Need-study-line-requires
-study-line-requires c κs = subst HeldSums (sym (c .entered .ensures)) (entered-held (c .before .before .before .before .before .before .before .before .args .u .set) (c .before .find-differences .result) (c .before .before .before .before .before .before .before .before .pre .0 .sums) (found (c .before)))
+study-line-requires c κs =
+    let s = c .before .before .before .before .before .before .before in
+    subst SetBounded (sym (c .entered .ensures)) (entered-bounded (s .args .u .set) (c .before .find-differences .result) (s .pre .0 .sums) (found (c .before)))
 
 returns-2 : tie.Need-returns-2
 returns-2 c =
-    let u = c .before .before .before .before .before .before .before .before .before .args .u in
-    let r = c .before .before .before .before .before .before .before .before .before .args .r in
+    let m = c .before .before .before .before .before in
+    let u = m .before .before .before .args .u in
+    let r = m .before .before .before .args .r in
     c .study-line .ensures
-    ∙ ap₂ (λ (m : ℕ) (s : Set). studyBy (eqb (s .lines) SET) u m s) (c .before .before .before .before .before .before .month-of .ensures) (c .before .entered .ensures ∙ ap (enteredOf (u .set)) (c .before .before .find-differences .ensures))
-    ∙ accepted-study u r (none (c .before .before .before .before .before .before .before)) (c .before .before .before .before .if2 .taken)
+    ∙ ap₂ (λ (m : ℕ) (s : Set). studyBy (eqb (s .lines) SET) u m s) (m .month-of .ensures) (c .before .entered .ensures ∙ ap (enteredOf (u .set)) (c .before .before .find-differences .ensures))
+    ∙ accepted-study u r (none (m .before)) (c .before .before .before .if2 .taken)
 
 is-missed-requires : tie.Need-is-missed-requires
 is-missed-requires c κs = search needs
@@ -65,22 +71,22 @@ missed-line-requires c κs = search needs
 
 returns-3 : tie.Need-returns-3
 returns-3 c =
-    let u = c .before .before .before .before .before .before .before .before .args .u in
-    let r = c .before .before .before .before .before .before .before .before .args .r in
+    let m = c .before .before .before .before .before in
+    let u = m .before .before .before .args .u in
+    let r = m .before .before .before .args .r in
     c .missed-line .ensures
-    ∙ ap (λ (m : ℕ). missedBy (again (u .misses .last) m) u m) (c .before .before .before .before .before .month-of .ensures)
-    ∙ accepted-missed u r (none (c .before .before .before .before .before .before)) (c .before .before .before .if2 .left) (sym (c .before .before .is-missed .ensures) ∙ c .before .if3 .taken)
-
-find-differences-requires-2 : tie.Need-find-differences-requires-2
-find-differences-requires-2 c κs = search needs
+    ∙ ap (λ (m : ℕ). missedBy (again (u .misses .last) m) u m) (m .month-of .ensures)
+    ∙ accepted-missed u r (none (m .before)) (c .before .before .before .if2 .left) (sym (c .before .before .is-missed .ensures) ∙ c .before .if3 .taken)
 
 sampled-requires : tie.Need-sampled-requires
 sampled-requires c κs =
-    let u = c .before .before .before .before .before .before .before .before .before .args .u in
-    let r = c .before .before .before .before .before .before .before .before .before .args .r in (
-      room u r (is-open u r (none (c .before .before .before .before .before .before .before))) (kind (c .before .before .before .before)) (sym (c .before .before .before .is-missed .ensures) ∙ c .before .before .if3 .left),
-      c .before .before .before .before .before .before .before .before .before .pre .0 .stretch,
-      subst Capped (sym (c .find-differences2 .ensures)) (capped r),
+    let m = c .before .before .before .before in
+    let s = m .before .before .before in
+    let u = s .args .u in
+    let r = s .args .r in (
+      room u r (is-open u r (none (m .before))) (kind (c .before .before)) (sym (c .before .is-missed .ensures) ∙ c .if3 .left),
+      s .pre .0 .stretch,
+      s .pre .1,
     )
 
 sample-line-requires : tie.Need-sample-line-requires
@@ -88,11 +94,12 @@ sample-line-requires c κs = search needs
 
 returns-4 : tie.Need-returns-4
 returns-4 c =
-    let u = c .before .before .before .before .before .before .before .before .before .before .before .args .u in
-    let r = c .before .before .before .before .before .before .before .before .before .before .before .args .r in
+    let m = c .before .before .before .before .before .before in
+    let u = m .before .before .before .args .u in
+    let r = m .before .before .before .args .r in
     c .sample-line .ensures
-    ∙ ap₂ (λ (m : ℕ) (s : Stretch). sampleBy (anyOver s) u m s) (c .before .before .before .before .before .before .before .before .month-of .ensures) (c .before .sampled .ensures ∙ ap (sampledOf (u .stretch) (r .year)) (c .before .before .find-differences2 .ensures))
-    ∙ accepted-sample u r (none (c .before .before .before .before .before .before .before .before .before)) (c .before .before .before .before .before .before .if2 .left) (sym (c .before .before .before .before .before .is-missed .ensures) ∙ c .before .before .before .before .if3 .left)
+    ∙ ap₂ (λ (m : ℕ) (s : Stretch). sampleBy (anyOver s) u m s) (m .month-of .ensures) (c .before .sampled .ensures)
+    ∙ accepted-sample u r (none (m .before)) (c .before .before .before .before .if2 .left) (sym (c .before .before .before .is-missed .ensures) ∙ c .before .before .if3 .left)
 
 pub take-record-spec : {M : Type 1} → statement M
 take-record-spec =
@@ -109,7 +116,6 @@ take-record-spec =
     is-missed-requires
     missed-line-requires
     returns-3
-    find-differences-requires-2
     sampled-requires
     sample-line-requires
     returns-4)

@@ -6,11 +6,11 @@ use lib.IntN.{ℤ, natAbs}
 use lib.Dec.{lit≤}
 use Rattle.laws.proofs.Word.{back}
 use Rattle.unit.specs.Contribution.{food}
-use Rattle.unit.specs.Bounds.{Moderate, AllModerate}
+use Rattle.unit.specs.bounds.Numbers.{Moderate, AllModerate}
 use mir.Syntax.{w32}
 use mir.Val.{toZ, ofZ}
 use mir.Facts.{toZ-ofZ}
-use Rattle.unit.specs.Standardize.{rowBy, rowFrom}
+use Rattle.unit.specs.Standardize.{figuresBy, figuresFrom}
 use Rattle.unit.specs.declared.difference.Difference.{Difference}
 use Rattle.unit.specs.Difference.{CAP, distance, differenceOf}
 use Rattle.unit.proofs.Value.{value-positive}
@@ -54,9 +54,9 @@ returns c =
     let far = distance (a .reading) (a .mean) in
     let bt : toZ w32 (ofZ w32 (d .standardized .result .tenths)) ≡ d .standardized .result .tenths = toZ-ofZ (search needs) in
     rw (bt, kept (x .p) (m .p), kept (x .n) (m .n), kept (x .v) (m .v), kept (x .d) (m .d))
-    (ap (rowBy (v .value .result) (d .standardized .result .tenths)) (z .contribute .ensures)
-    ∙ ap (λ (y : Difference). rowFrom (v .value .result) (y .tenths)) (d .standardized .ensures)
-    ∙ ap (λ (s : ℕ). rowFrom s (differenceOf far s .tenths)) (v .value .ensures))
+    (ap (figuresBy (v .value .result) (d .standardized .result .tenths)) (z .contribute .ensures)
+    ∙ ap (λ (y : Difference). figuresFrom (v .value .result) (y .tenths)) (d .standardized .ensures)
+    ∙ ap (λ (s : ℕ). figuresFrom s (differenceOf far s .tenths)) (v .value .ensures))
 
 pub fill-spec : {M : Type 1} → statement M
 fill-spec = tie.close (tie.spec value-requires standardized-requires contribute-requires returns)

@@ -1,6 +1,6 @@
 -- `unit::standardize::least_mean` meets its contract. Assumes nothing.
 use borrow.Author.Tests.{ne-eqb}
-use Rattle.unit.specs.Good.{leastMean}
+use Rattle.unit.specs.Standardize.{leastMean}
 use Rattle.unit.proofs.standardize.least_mean.Statement.{statement}
 use Rattle.unit.proofs.standardize.least_mean.Tie as tie
 

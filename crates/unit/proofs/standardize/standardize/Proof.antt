@@ -8,7 +8,7 @@ use lib.Bits.{and-mask}
 use borrow.Author.Tests.{lt-ltb, le-ltb}
 use Rattle.unit.specs.declared.standardize.Standardized.the-variants.{Given}
 use Rattle.line.specs.Refused.{MOST, classOf, productRow}
-use Rattle.unit.specs.Good.{leastMean}
+use Rattle.unit.specs.Standardize.{leastMean}
 use Rattle.unit.specs.Standardize.{badMean, standardizedOf}
 use borrow.Author.Needs.{needs}
 use Rattle.unit.proofs.standardize.standardize.Statement.{statement}

@@ -24,6 +24,4 @@ returns : tie.Need-returns
 returns c = any (c .before .before .before .over-in .ensures) (c .before .before .over-in2 .ensures) (c .before .over-in3 .ensures) (c .over-in4 .ensures)
 
 pub any-over-spec : {M : Type 1} → statement M
-any-over-spec =
-    tie.close
-    (tie.spec over-in-requires over-in-requires-2 over-in-requires-3 over-in-requires-4 returns)
+any-over-spec = tie.close (tie.spec over-in-requires over-in-requires-2 over-in-requires-3 over-in-requires-4 returns)

@@ -1,88 +1,93 @@
--- `sampled` meets its contract, analyte by analyte: the contributions are moderate, and there is room in the charts. Assumes nothing.
+-- `sampled` meets its contract, analyte by analyte: contributions are moderate, and there is room in the charts. Assumes nothing.
 use mathlib.Core.Path.{_≡_, sym, ap, subst, _∙_}
-use Prim.Native.Nat.{ℕ, _<_, _≤_}
-use lib.Dec.{lit≤}
-use lib.IntN.{natAbs}
+use Prim.Native.Nat.{ℕ, _<_}
+use lib.Dec.{lit<}
 use Rattle.unit.specs.Charts.{chartsOf}
-use Rattle.unit.specs.Bounds.{AllModerate}
-use Rattle.unit.specs.Contribution.{food, contributionsOf}
-use Rattle.unit.specs.Difference.{CAP}
+use Rattle.unit.specs.Sample.{contributedBy}
 use Rattle.unit.specs.Stretch.{FULL}
+use Rattle.unit.specs.bounds.Numbers.{ChartsBounded, AllRoomy, AllModerate}
+use Rattle.unit.specs.declared.chart.Charts.{Charts}
 use Rattle.unit.specs.declared.contribution.Contributions.{Contributions}
-use Rattle.unit.specs.declared.difference.Difference.{Difference}
-use Rattle.unit.proofs.Bounds.{moderate}
 use Rattle.unit.proofs.Room.{assembled}
 use Rattle.unit.proofs.Steps.{roomy}
+use Rattle.unit.proofs.Taking.{each-moderate}
 use borrow.Author.Needs.{needs}
 use Rattle.unit.proofs.stretch.sampled.Statement.{statement}
 use Rattle.unit.proofs.stretch.sampled.Tie as tie
 
-fewer : (c : tie.After-samples-before) → c .samples-before .result < FULL
-fewer c = subst (λ (n : ℕ). n < FULL) (sym (c .samples-before .ensures)) (c .before .pre .0)
-
-given : (d : Difference) (x : Contributions) → natAbs (d .tenths) ≤ CAP → x ≡ contributionsOf food (d .tenths) → AllModerate x
-given d x h e = subst AllModerate (sym e) (moderate food (d .tenths) (lit≤ tt) h)
+-- what a step asks, of an analyte's charts
+asks : (c : tie.After-samples-before) (charts : Charts) {x y : Contributions} → ChartsBounded (c .before .args .s .samples) charts → x ≡ y → AllModerate y
+    → (c .samples-before .result < FULL) × AllRoomy charts × AllModerate x
+asks c charts h e m = (
+  subst (λ (n : ℕ). n < FULL) (sym (c .samples-before .ensures)) (c .before .pre .0),
+  roomy charts (c .before .pre .1 .samples) h,
+  subst AllModerate (sym e) m,
+)
 
 samples-before-requires : tie.Need-samples-before-requires
 samples-before-requires c κs = search needs
 
-add-t13 : tie.Need-add-t13
-add-t13 c = search needs
+add-t10 : tie.Need-add-t10
+add-t10 c = search needs
 
-contribute-requires : tie.Need-contribute-requires
-contribute-requires c κs = c .before .before .before .before .before .before .before .before .before .pre .2 .moisture
+contribute-reading-requires : tie.Need-contribute-reading-requires
+contribute-reading-requires c κs = search needs
 
 step-all-requires : tie.Need-step-all-requires
 step-all-requires c κs =
-    let start = c .before .before .before .before .before .before .before .before .before .before in
-    (fewer (c .before .before .before .before .before .before .before .before .before), roomy (start .args .s .moisture) (start .pre .1 .samples) (start .pre .1 .moisture), given (start .args .d .moisture) _ (start .pre .2 .moisture) (c .contribute .ensures))
+    let n = c .before .before .before in
+    asks n _ (n .before .pre .1 .moisture) (c .contribute-reading .ensures) (each-moderate (n .before .args .r) .moisture)
 
-contribute-requires-2 : tie.Need-contribute-requires-2
-contribute-requires-2 c κs = c .before .before .before .before .before .before .before .before .before .before .before .pre .2 .protein
+contribute-reading-requires-2 : tie.Need-contribute-reading-requires-2
+contribute-reading-requires-2 c κs = search needs
 
 step-all-requires-2 : tie.Need-step-all-requires-2
 step-all-requires-2 c κs =
-    let start = c .before .before .before .before .before .before .before .before .before .before .before .before in
-    (fewer (c .before .before .before .before .before .before .before .before .before .before .before), roomy (start .args .s .protein) (start .pre .1 .samples) (start .pre .1 .protein), given (start .args .d .protein) _ (start .pre .2 .protein) (c .contribute2 .ensures))
+    let n = c .before .before .before .before .before in
+    asks n _ (n .before .pre .1 .protein) (c .contribute-reading2 .ensures) (each-moderate (n .before .args .r) .protein)
 
-contribute-requires-3 : tie.Need-contribute-requires-3
-contribute-requires-3 c κs = c .before .before .before .before .before .before .before .before .before .before .before .before .before .pre .2 .fat
+contribute-reading-requires-3 : tie.Need-contribute-reading-requires-3
+contribute-reading-requires-3 c κs = search needs
 
 step-all-requires-3 : tie.Need-step-all-requires-3
 step-all-requires-3 c κs =
-    let start = c .before .before .before .before .before .before .before .before .before .before .before .before .before .before in
-    (fewer (c .before .before .before .before .before .before .before .before .before .before .before .before .before), roomy (start .args .s .fat) (start .pre .1 .samples) (start .pre .1 .fat), given (start .args .d .fat) _ (start .pre .2 .fat) (c .contribute3 .ensures))
+    let n = c .before .before .before .before .before .before .before in
+    asks n _ (n .before .pre .1 .fat) (c .contribute-reading3 .ensures) (each-moderate (n .before .args .r) .fat)
 
-contribute-requires-4 : tie.Need-contribute-requires-4
-contribute-requires-4 c κs = c .before .before .before .before .before .before .before .before .before .before .before .before .before .before .before .pre .2 .salt
+contribute-reading-requires-4 : tie.Need-contribute-reading-requires-4
+contribute-reading-requires-4 c κs = (lit< tt, c .before .before .before .before .before .before .before .before .before .pre .2 .salt)
 
 step-all-requires-4 : tie.Need-step-all-requires-4
 step-all-requires-4 c κs =
-    let start = c .before .before .before .before .before .before .before .before .before .before .before .before .before .before .before .before in
-    (fewer (c .before .before .before .before .before .before .before .before .before .before .before .before .before .before .before), roomy (start .args .s .salt) (start .pre .1 .samples) (start .pre .1 .salt), given (start .args .d .salt) _ (start .pre .2 .salt) (c .contribute4 .ensures))
+    let n = c .before .before .before .before .before .before .before .before .before in
+    asks n _ (n .before .pre .1 .salt) (c .contribute-reading4 .ensures) (each-moderate (n .before .args .r) .salt)
 
 returns : tie.Need-returns
 returns c =
-    let start = c .before .before .before .before .before .before .before .before .before .before .before .before .before .before .before .before .before .args in
-    let n = c .before .before .before .before .before .before .before .before .before .before .before .before .before .before .before .before .samples-before in
-    assembled (start .s) (start .year) (start .d) (n .ensures)
-    (c .before .before .before .before .before .before .step-all .ensures ∙ ap (chartsOf (start .s .moisture) (n .result)) (c .before .before .before .before .before .before .before .contribute .ensures))
-    (c .before .before .before .before .step-all2 .ensures ∙ ap (chartsOf (start .s .protein) (n .result)) (c .before .before .before .before .before .contribute2 .ensures))
-    (c .before .before .step-all3 .ensures ∙ ap (chartsOf (start .s .fat) (n .result)) (c .before .before .before .contribute3 .ensures))
-    (c .step-all4 .ensures ∙ ap (chartsOf (start .s .salt) (n .result)) (c .before .contribute4 .ensures))
+    let f = c .before .before in
+    let p = f .before .before in
+    let m = p .before .before in
+    let n = m .before .before .before .before in
+    let s = n .before .args .s in
+    let k = n .samples-before .result in
+    assembled s (n .before .args .r .year) (contributedBy (n .before .args .r)) (n .samples-before .ensures)
+    (m .step-all .ensures ∙ ap (chartsOf (s .moisture) k) (m .before .contribute-reading .ensures))
+    (p .step-all2 .ensures ∙ ap (chartsOf (s .protein) k) (p .before .contribute-reading2 .ensures))
+    (f .step-all3 .ensures ∙ ap (chartsOf (s .fat) k) (f .before .contribute-reading3 .ensures))
+    (c .step-all4 .ensures ∙ ap (chartsOf (s .salt) k) (c .before .contribute-reading4 .ensures))
 
 pub sampled-spec : {M : Type 1} → statement M
 sampled-spec =
     tie.close
     (tie.spec
     samples-before-requires
-    add-t13
-    contribute-requires
+    add-t10
+    contribute-reading-requires
     step-all-requires
-    contribute-requires-2
+    contribute-reading-requires-2
     step-all-requires-2
-    contribute-requires-3
+    contribute-reading-requires-3
     step-all-requires-3
-    contribute-requires-4
+    contribute-reading-requires-4
     step-all-requires-4
     returns)

@@ -9,14 +9,14 @@ use Rattle.laws.proofs.Word.{abs-plus}
 use Rattle.unit.specs.declared.study.Sums.{Sums}
 use Rattle.unit.specs.Difference.{CAP}
 use Rattle.unit.specs.Study.{noSums, addedOf, sumsOf}
-use Rattle.unit.specs.Bounds.{Held}
+use Rattle.unit.specs.bounds.Numbers.{SumsBounded}
 use Rattle.unit.proofs.Bounds.{measure-small}
 
-pub none-held : Held 0 noSums
-none-held = record { s = omega arith; q = omega arith; g = omega arith }
+pub none-bounded : SumsBounded 0 noSums
+none-bounded = record { s = omega arith; q = omega arith; g = omega arith }
 
-pub more-held : {n : ℕ} (sums : Sums) (d : ℤ) → natAbs d ≤ CAP → Held n sums → Held (suc n) (addedOf sums d)
-more-held sums d h k =
+pub more-bounded : {n : ℕ} (sums : Sums) (d : ℤ) → natAbs d ≤ CAP → SumsBounded n sums → SumsBounded (suc n) (addedOf sums d)
+more-bounded sums d h k =
     record {
       s = omega (arith, abs-plus (sums .s) d, k .s);
       q = omega (arith, mul-le-mul h h, k .q);
@@ -28,7 +28,7 @@ abbrev pub Small : List ℤ → Type 0
 Small [] = Unit {0}
 Small (d ∷ ds) = (natAbs d ≤ CAP) × Small ds
 
-pub list-held : (ds : List ℤ) → Small ds → Held (length ds) (sumsOf ds)
+pub list-bounded : (ds : List ℤ) → Small ds → SumsBounded (length ds) (sumsOf ds)
 unfolding sumsOf
-list-held [] h = none-held
-list-held (d ∷ ds) h = more-held (sumsOf ds) d (h .0) (list-held ds (h .1))
+list-bounded [] h = none-bounded
+list-bounded (d ∷ ds) h = more-bounded (sumsOf ds) d (h .0) (list-bounded ds (h .1))

@@ -1,7 +1,7 @@
 -- `bit` meets its contract, by its flag. Assumes nothing.
 use native.Mathlib.Omega.{arith}
-use Rattle.unit.proofs.report.bit.Statement.{statement}
-use Rattle.unit.proofs.report.bit.Tie as tie
+use Rattle.unit.proofs.shown.bit.Statement.{statement}
+use Rattle.unit.proofs.shown.bit.Tie as tie
 
 returns : tie.Need-returns
 returns c = rw (c .if1 .taken) (omega arith)

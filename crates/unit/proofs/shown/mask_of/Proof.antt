@@ -1,8 +1,8 @@
 -- `mask_of` meets its contract: each chart's bit has its place. Assumes nothing.
 use native.Mathlib.Omega.{arith}
 use borrow.Author.Needs.{needs}
-use Rattle.unit.proofs.report.mask_of.Statement.{statement}
-use Rattle.unit.proofs.report.mask_of.Tie as tie
+use Rattle.unit.proofs.shown.mask_of.Statement.{statement}
+use Rattle.unit.proofs.shown.mask_of.Tie as tie
 
 bit-requires : tie.Need-bit-requires
 bit-requires c κs = search needs

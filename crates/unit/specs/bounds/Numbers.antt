@@ -1,4 +1,4 @@
--- How far the numbers of a unit can go: what the proofs need, and no part of the rules. Every unit that a list of lines leads to keeps to `Bounded`.
+-- How far the numbers of a unit can go. Every unit that a list of lines leads to keeps to `Bounded`.
 use Prim.Native.Nat.{ℕ, _+_, _*_, _≤_, _<_}
 use lib.IntN.{ℤ, natAbs}
 use Rattle.line.specs.Refused.{LAST-YEAR}
@@ -8,6 +8,7 @@ use Rattle.unit.specs.Study.{SET}
 use Rattle.unit.specs.declared.Unit as U
 use Rattle.unit.specs.declared.chart.Charts.{Charts}
 use Rattle.unit.specs.declared.contribution.Contributions.{Contributions}
+use Rattle.unit.specs.Sample.{Contributed}
 use Rattle.unit.specs.declared.sample.Differences.{Differences}
 use Rattle.unit.specs.declared.set.Set.{Set}
 use Rattle.unit.specs.declared.stretch.Stretch.{Stretch}
@@ -33,19 +34,26 @@ pub record AllModerate (x : Contributions) : Type 0 where
   pub v : Moderate (x .v)
   pub d : Moderate (x .d)
 
+-- those of all four analytes
+pub record EachModerate (x : Contributed) : Type 0 where
+  pub moisture : AllModerate (x .moisture)
+  pub protein : AllModerate (x .protein)
+  pub fat : AllModerate (x .fat)
+  pub salt : AllModerate (x .salt)
+
 -- the charts of an analyte after so many samples of a stretch
-pub record Within (samples : ℕ) (charts : Charts) : Type 0 where
+pub record ChartsBounded (samples : ℕ) (charts : Charts) : Type 0 where
   pub p : natAbs (charts .p .value) ≤ LARGEST * samples
   pub n : natAbs (charts .n .value) ≤ LARGEST * samples
   pub v : natAbs (charts .v .value) ≤ LARGEST * samples
   pub d : natAbs (charts .d .value) ≤ LARGEST * samples
 
-pub record HeldStretch (s : Stretch) : Type 0 where
+pub record StretchBounded (s : Stretch) : Type 0 where
   pub samples : s .samples ≤ FULL
-  pub moisture : Within (s .samples) (s .moisture)
-  pub protein : Within (s .samples) (s .protein)
-  pub fat : Within (s .samples) (s .fat)
-  pub salt : Within (s .samples) (s .salt)
+  pub moisture : ChartsBounded (s .samples) (s .moisture)
+  pub protein : ChartsBounded (s .samples) (s .protein)
+  pub fat : ChartsBounded (s .samples) (s .fat)
+  pub salt : ChartsBounded (s .samples) (s .salt)
 
 -- the charts of an analyte at any time
 abbrev pub Roomy : ℤ → Type 0
@@ -58,24 +66,24 @@ pub record AllRoomy (c : Charts) : Type 0 where
   pub d : Roomy (c .d .value)
 
 -- the sums of n differences, each capped
-pub record Held (n : ℕ) (sums : Sums) : Type 0 where
+pub record SumsBounded (n : ℕ) (sums : Sums) : Type 0 where
   pub s : natAbs (sums .s) ≤ CAP * n
   pub q : sums .q ≤ CAP * CAP * n
   pub g : sums .g ≤ LARGEST * n
 
 -- those of a set are of its lines so far
-pub record HeldSums (s : Set) : Type 0 where
-  pub moisture : Held (s .lines) (s .moisture)
-  pub protein : Held (s .lines) (s .protein)
-  pub fat : Held (s .lines) (s .fat)
-  pub salt : Held (s .lines) (s .salt)
+pub record SetBounded (s : Set) : Type 0 where
+  pub moisture : SumsBounded (s .lines) (s .moisture)
+  pub protein : SumsBounded (s .lines) (s .protein)
+  pub fat : SumsBounded (s .lines) (s .fat)
+  pub salt : SumsBounded (s .lines) (s .salt)
 
 -- December of the last year
-abbrev pub LAST : ℕ
-LAST = 12 * LAST-YEAR + 12
+abbrev pub LAST-MONTH : ℕ
+LAST-MONTH = 12 * LAST-YEAR + 12
 
 pub record Bounded (u : U.Unit) : Type 0 where
   pub lines : u .set .lines < SET
-  pub sums : HeldSums (u .set)
-  pub stretch : HeldStretch (u .stretch)
-  pub miss : u .misses .last ≤ LAST
+  pub sums : SetBounded (u .set)
+  pub stretch : StretchBounded (u .stretch)
+  pub miss : u .misses .last ≤ LAST-MONTH

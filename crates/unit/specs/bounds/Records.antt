@@ -1,16 +1,10 @@
--- What the code needs of a record, and every record that was read has: its date is in range, its kind is one of the two, and its means are those of
--- valid lines.
+-- What every record that was read is known to be: its date is in range, its kind is one of the two, and its means are those of valid lines.
 use Prim.Native.Nat.{ℕ, _≤_}
 use mathlib.Core.Path.{_≡_}
-use mathlib.Core.Bool.{cond}
 use mathlib.Core.Logic.{_⊎_}
-use lib.Dec.{eqb}
-use Rattle.line.specs.Refused.{MAINTENANCE, STUDY, FIRST-YEAR, LAST-YEAR, MOST, LEAST-PROTEIN, LEAST-BEEF-FAT, classOf}
+use Rattle.line.specs.Refused.{MAINTENANCE, STUDY, FIRST-YEAR, LAST-YEAR, MOST, classOf}
 use Rattle.line.specs.declared.record.Record.{Record}
-
--- "Refused", row 6, the means of valid lines: at most a hundred percent; protein from 5, fat from 1, ground beef's fat from 1250
-unfoldable pub leastMean : ℕ → ℕ → ℕ
-leastMean class analyte = cond (eqb analyte 1) LEAST-PROTEIN (cond (eqb analyte 2) (cond (eqb class 1) LEAST-BEEF-FAT 1) 0)
+use Rattle.unit.specs.Standardize.{leastMean}
 
 pub record GoodMean (class analyte m : ℕ) : Type 0 where
   pub least : leastMean class analyte ≤ m
