@@ -1,6 +1,4 @@
 // An empty input: the status alone.
 fn main() {
-    let mut input = io::large_buffer();
-    let mut output = io::large_buffer();
-    terminal::run(&mut input, &mut output);
+    terminal::run();
 }

@@ -1,6 +1,4 @@
 // Probation by misses in two calendar years.
 fn main() {
-    let mut input = io::large_buffer();
-    let mut output = io::large_buffer();
-    terminal::run(&mut input, &mut output);
+    terminal::run();
 }

@@ -14,19 +14,19 @@ use lib.Seq.{take-suc, take-add, drop-cons, drop-drop}
 use Rattle.laws.proofs.Bools.{either}
 use Rattle.console.specs.declared.Console.{Console}
 use Rattle.console.specs.declared.Fed.{Fed}
-use Rattle.console.specs.Buffer.{over}
-use Rattle.console.specs.Room.{ANSWER}
+use Rattle.console.specs.Buffer.{withText}
+use Rattle.console.specs.bounds.Room.{ANSWER}
 use Rattle.console.specs.Lines.{hasNewline}
 use Rattle.console.specs.State.{pending, steppedOf, stepText, consoleAfter, textAfter}
-use Rattle.console.specs.Stands.{Stands, Reached}
-use Rattle.console.specs.Feed.{takes, fedOf, fedBuffer, Within}
+use Rattle.console.specs.Stands.{Reached}
+use Rattle.console.specs.Feed.{takes, fedOf, fedBuffer, Progress, Continued, FeedKept}
 use Rattle.console.specs.Text.{NEWLINE, answerText}
-use Rattle.console.specs.Transcript.{textOf}
 use Rattle.unit.specs.Take.{takenOf}
 use Rattle.unit.specs.Event.{eventByte, numberByte}
 use Rattle.unit.specs.declared.event.Event.{Event}
 use Rattle.unit.specs.declared.Taken.{Taken}
-use Rattle.console.proofs.BufferLaws.{over-none, over-over, over-length, over-front, line-length}
+use Rattle.console.proofs.KeptLaws.{unit-after}
+use Rattle.console.proofs.BufferLaws.{withText-none, withText-append, withText-length, withText-front, withText-behind, line-length}
 use Rattle.console.proofs.StandLaws.{step-newline, made-after, stands-after}
 use Rattle.console.proofs.PartLaws.{part-length, console-append, text-append, part-text, part-takes}
 
@@ -39,7 +39,7 @@ pub record Going (c₀ : Console) (input output₀ : List ℕ) (c : Console) (ou
   pub fits : written ≤ length output₀
   pub state : c ≡ consoleAfter c₀ (take taken input)
   pub place : written ≡ length (textAfter c₀ (take taken input))
-  pub text : output ≡ over output₀ 0 (textAfter c₀ (take taken input))
+  pub text : output ≡ withText output₀ 0 (textAfter c₀ (take taken input))
   pub left : takes c₀ input (length output₀) ≡ taken + takes c (drop taken input) (length output₀ - written)
 
 -- ---- how much is taken
@@ -76,11 +76,12 @@ module _ {c₀ : Console} {input output₀ : List ℕ} where
   pub going-start : Going c₀ input output₀ c₀ output₀ 0 0
   going-start =
       let room : length output₀ - 0 ≡ length output₀ = omega arith in
-      record { within = omega arith; fits = omega arith; state = refl; place = refl; text = sym (over-none output₀ 0); left = rw (room, zero-add) }
+      record { within = omega arith; fits = omega arith; state = refl; place = refl; text = sym (withText-none output₀ 0); left = rw (room, zero-add) }
 
   going-on : {c : Console} {output : List ℕ} {i w : ℕ} → Going c₀ input output₀ c output i w → i < length input → ANSWER ≤ length output₀ - w
       → length (stepText c (getD input i 0)) ≤ ANSWER
-      → Going c₀ input output₀ (steppedOf c (getD input i 0)) (over output w (stepText c (getD input i 0))) (i + 1) (w + length (stepText c (getD input i 0)))
+      → Going c₀ input output₀ (steppedOf c (getD input i 0)) (withText output w (stepText c (getD input i 0))) (i + 1)
+      (w + length (stepText c (getD input i 0)))
   going-on {c} {output} {i} {w} g h k a =
       let x = getD input i 0 in
       let step = stepText c x in
@@ -96,10 +97,10 @@ module _ {c₀ : Console} {input output₀ : List ℕ} where
         state = ap (λ (d : Console). steppedOf d x) (g .state) ∙ sym (console-append c₀ (take i input) (x ∷ [])) ∙ ap (consoleAfter c₀) (sym next);
         place = ap (λ (n : ℕ). n + length step) (g .place) ∙ sym (length-append text step) ∙ ap length (sym more);
         text =
-            ap (λ (b : List ℕ). over b w step) (g .text)
-            ∙ ap (λ (n : ℕ). over (over output₀ 0 text) n step) here
-            ∙ over-over output₀ 0 text step (omega (arith, g .fits, g .place))
-            ∙ ap (over output₀ 0) (sym more);
+            ap (λ (b : List ℕ). withText b w step) (g .text)
+            ∙ ap (λ (n : ℕ). withText (withText output₀ 0 text) n step) here
+            ∙ withText-append output₀ 0 text step (omega (arith, g .fits, g .place))
+            ∙ ap (withText output₀ 0) (sym more);
         left = g .left ∙ rw (takes-more input c i (length output₀ - w) h k, room) (omega arith);
       }
 
@@ -129,13 +130,13 @@ module _ {c₀ : Console} {input output₀ : List ℕ} where
           fits = g .fits;
           state = state;
           place = g .place ∙ ap length (sym text);
-          text = g .text ∙ ap (over output₀ 0) (sym text);
+          text = g .text ∙ ap (withText output₀ 0) (sym text);
           left = omega (arith, g .left, left);
         }
 
     -- the line ends, and its answer is written
     pub going-line : (t : Taken) (next : List ℕ) (to : ℕ) → i < length input → getD input i 0 ≡ NEWLINE → t ≡ takenOf (c .unit) (pending c)
-        → to ≡ w + length (answerText (t .event)) → next ≡ over output w (answerText (t .event))
+        → to ≡ w + length (answerText (t .event)) → next ≡ withText output w (answerText (t .event))
         → Going c₀ input output₀ (record { unit = t .unit; held = 0; bytes = c .bytes }) next (i + 1) to
     going-line t next to h e r l o =
         let p = step-newline c (getD input i 0) (eq-eqb (getD input i 0) NEWLINE e) in
@@ -143,17 +144,27 @@ module _ {c₀ : Console} {input output₀ : List ℕ} where
         rw (l, o, r) (rw (p .0, p .1) at (going-on g h k five))
 
   pub going-length : {c : Console} {output : List ℕ} {i w : ℕ} → Going c₀ input output₀ c output i w → length output ≡ length output₀
-  going-length {c} {output} {i} {w} g = ap length (g .text) ∙ over-length output₀ 0 (textAfter c₀ (take i input)) (omega (arith, g .fits, g .place))
+  going-length {c} {output} {i} {w} g = ap length (g .text) ∙ withText-length output₀ 0 (textAfter c₀ (take i input)) (omega (arith, g .fits, g .place))
 
   pub going-made : {c : Console} {output : List ℕ} {i w : ℕ} → Reached c₀ → Going c₀ input output₀ c output i w → Reached c
   going-made {c} {output} {i} {w} m g = rw (g .state) (made-after c₀ (take i input) m)
 
   -- the console stands for all of the input, and what was written is what the text grew by
-  pub going-stands : {c : Console} {output : List ℕ} {i w : ℕ} → Going c₀ input output₀ c output i w → (before : List ℕ) → Stands c₀ before
-      → Stands c (before ++ take i input) × (textOf (before ++ take i input) ≡ textOf before ++ take w output)
-  going-stands {c} {output} {i} {w} g before s =
-      let all = stands-after c₀ before (take i input) s in
-      (rw (g .state) (all .0), rw (g .text, g .place, over-front output₀ (textAfter c₀ (take i input))) (all .1))
+  pub going-stands : {c : Console} {output : List ℕ} {i w : ℕ} → Going c₀ input output₀ c output i w
+      → Continued c₀ input output (record { console = c; taken = i; written = w })
+  going-stands {c} {output} {i} {w} g = record {
+    stands = λ before s. rw (g .state) (stands-after c₀ before (take i input) s .0);
+    text = λ before s. rw (g .text, g .place, withText-front output₀ (textAfter c₀ (take i input))) (stands-after c₀ before (take i input) s .1);
+  }
+
+  pub going-kept : {c : Console} {output : List ℕ} {i w : ℕ} → Going c₀ input output₀ c output i w
+      → FeedKept c₀ input output₀ output (record { console = c; taken = i; written = w })
+  going-kept {c} {output} {i} {w} g = record {
+    unit = λ n. rw (g .state) (unit-after c₀ (take i input) n);
+    behind = rw (g .text, g .place) (withText-behind output₀ (textAfter c₀ (take i input)));
+    console = λ (none : i ≡ 0). rw none at (g .state);
+    output = λ (none : i ≡ 0). rw none at (g .text) ∙ withText-none output₀ 0;
+  }
 
   -- ---- the end: all of the input is taken, or no room is left
   stopped : {c : Console} {output : List ℕ} {i w : ℕ} → Going c₀ input output₀ c output i w → takes c (drop i input) (length output₀ - w) ≡ 0
@@ -173,9 +184,10 @@ module _ {c₀ : Console} {input output₀ : List ℕ} where
       (either (ltb i (length input))) in
       answered g (stopped g none)
 
-  pub fed-within : {c : Console} {output : List ℕ} {i w : ℕ} → Going c₀ input output₀ c output i w → (ltb i (length input) && leb ANSWER (length output - w)) ≡ false
-      → Within input output (record { console = c; taken = i; written = w })
-  fed-within {c} {output} {i} {w} g e =
+  pub fed-progress : {c : Console} {output : List ℕ} {i w : ℕ} → Going c₀ input output₀ c output i w
+      → (ltb i (length input) && leb ANSWER (length output - w)) ≡ false
+      → Progress input output (record { console = c; taken = i; written = w })
+  fed-progress {c} {output} {i} {w} g e =
       let size = going-length g in
       let all : i ≡ takes c₀ input (length output₀) = ap (λ (r : Fed). r .taken) (fed g e .0) in
       record { taken = g .within; written = omega (arith, g .fits); some = λ h k. rw all (takes-some c₀ input (length output₀) h (omega arith)) }

@@ -5,9 +5,9 @@ use mathlib.Core.Bool.{Bool, true, false, cond}
 use mathlib.Core.List.{List, [], _∷_, _++_, append-assoc, append-nil}
 use native.Mathlib.Omega.{arith}
 use borrow.Author.Tests.{eq-eqb, ne-eqb, lt-ltb, le-ltb}
-use lib.Dec.{eqb}
 use lib.ListN.{length, take, length-append}
 use lib.Seq.{length-take-le}
+use Rattle.line.specs.Digits.{lineLength}
 use Rattle.unit.specs.Take.{newUnit, takenOf}
 use Rattle.unit.specs.Reached.{after}
 use Rattle.unit.specs.Status.{statusOf}
@@ -19,32 +19,32 @@ use Rattle.console.specs.declared.Console.{Console}
 use Rattle.console.specs.Text.{NEWLINE, answerText, statusText}
 use Rattle.console.specs.Lines.{ended, rest, lastLine, linesOf}
 use Rattle.console.specs.Transcript.{answers, textOf, transcript}
-use Rattle.console.specs.Buffer.{over}
-use Rattle.console.specs.Room.{ANSWER, LAST, STATUS}
+use Rattle.console.specs.Buffer.{withText, SameFrom}
+use Rattle.console.specs.bounds.Room.{ANSWER, FINAL, STATUS}
 use Rattle.console.specs.State.{HELD, pending}
 use Rattle.console.specs.Stands.{Stands}
 use Rattle.console.specs.Feed.{takes, fedOf, fedBuffer}
-use Rattle.console.specs.Finish.{lastUnit, lastText, finalText, finishedOf, finishedBuffer}
-use Rattle.console.proofs.BufferLaws.{over-length, over-over, over-front}
+use Rattle.console.specs.Finish.{nothingHeld, lastUnit, lastText, finalText, finishedOf, finishedBuffer, Completes, FinishKept}
+use Rattle.console.proofs.BufferLaws.{withText-length, withText-append, withText-front, withText-behind}
 use Rattle.console.proofs.LineLaws.{answers-append, taken-cut}
 use Rattle.console.proofs.StandLaws.{step-newline}
 use Rattle.console.proofs.FeedLaws.{answer-length}
 use Rattle.console.proofs.StatusLaws.{status-length}
 
 module _ (c : Console) where
-  pub last-none : c .held ≡ 0 → (lastUnit c ≡ c .unit) × (lastText c ≡ [])
+  pub last-none : nothingHeld c ≡ true → (lastUnit c ≡ c .unit) × (lastText c ≡ [])
   unfolding lastUnit lastText
-  last-none e = let t = eq-eqb (c .held) 0 e in (rw t, rw t)
+  last-none t = (rw t, rw t)
 
-  pub last-some : (c .held ≡ 0 → ⊥) → (lastUnit c ≡ takenOf (c .unit) (pending c) .unit) × (lastText c ≡ answerText (takenOf (c .unit) (pending c) .event))
+  pub last-some : nothingHeld c ≡ false → (lastUnit c ≡ takenOf (c .unit) (pending c) .unit) × (lastText c ≡ answerText (takenOf (c .unit) (pending c) .event))
   unfolding lastUnit lastText
-  last-some n = let t = ne-eqb (c .held) 0 n in (rw t, rw t)
+  last-some t = (rw t, rw t)
 
   -- a line under way ends as its newline would end it
-  pub ended-by-newline : (output : List ℕ) → (c .held ≡ 0 → ⊥) → ANSWER ≤ length output
+  pub ended-by-newline : (output : List ℕ) → nothingHeld c ≡ false → ANSWER ≤ length output
       → (fedOf c (NEWLINE ∷ []) (length output) .console .unit ≡ lastUnit c)
       × (fedOf c (NEWLINE ∷ []) (length output) .written ≡ length (lastText c))
-      × (fedBuffer c (NEWLINE ∷ []) output ≡ over output 0 (lastText c))
+      × (fedBuffer c (NEWLINE ∷ []) output ≡ withText output 0 (lastText c))
   unfolding takes
   ended-by-newline output n h =
       let some = last-some n in
@@ -53,7 +53,7 @@ module _ (c : Console) where
 
   pub last-length : length (lastText c) ≤ ANSWER
   unfolding lastText
-  last-length = go (eqb (c .held) 0)
+  last-length = go (nothingHeld c)
     where
       go : (b : Bool) → length (cond b [] (answerText (takenOf (c .unit) (pending c) .event))) ≤ ANSWER
       go true = omega arith
@@ -64,11 +64,11 @@ module _ (c : Console) where
       → (lastText c ≡ answers (c .unit) (lastLine p)) × (lastUnit c ≡ after (c .unit) (lastLine p))
   last-is [] f s e =
       let long : c .held ≡ 0 = sym (length-take-le (c .held) (c .bytes) (omega arith)) ∙ ap length e in
-      let none = last-none long in
+      let none = last-none (eq-eqb (c .held) 0 long) in
       (none .1, none .0)
   last-is (x ∷ p) f s e =
-      let long : c .held ≡ suc (length (take 68 p)) = sym (length-take-le (c .held) (c .bytes) (omega arith)) ∙ ap length e in
-      let some = last-some (λ (z : c .held ≡ 0). omega arith) in
+      let long : c .held ≡ suc (length (take lineLength p)) = sym (length-take-le (c .held) (c .bytes) (omega arith)) ∙ ap length e in
+      let some = last-some (ne-eqb (c .held) 0 (λ z. omega arith)) in
       let same : takenOf (c .unit) (pending c) ≡ takenOf (c .unit) (x ∷ p) = ap (takenOf (c .unit)) e ∙ taken-cut (c .unit) (x ∷ p) in (
         some .1 ∙ ap (λ (t : Taken). answerText (t .event)) same ∙ sym (append-nil (answerText (takenOf (c .unit) (x ∷ p) .event))),
         some .0 ∙ ap (λ (t : Taken). t .unit) same,
@@ -93,35 +93,41 @@ module _ (c : Console) (output : List ℕ) where
   abbrev pub Finished : ℕ → List ℕ → Type 0
   Finished r exit =
       (r ≡ finishedOf c (length output))
-      × ((exit ≡ finishedBuffer c output) × ((r ≤ length exit) × ((input : List ℕ) → Stands c input → LAST ≤ length output → textOf input ++ take r exit ≡ transcript input)))
+      × ((exit ≡ finishedBuffer c output) × ((r ≤ length exit) × (Completes c output exit r × FinishKept output exit r)))
 
-  pub finished-short : length output < LAST → Finished 0 output
-  finished-short h = let t = lt-ltb (length output) LAST h in (rw t, (rw t, (omega arith, λ input s l. absurd (omega arith))))
+  pub finished-short : length output < FINAL → Finished 0 output
+  finished-short h =
+      let t = lt-ltb (length output) FINAL h in
+      (rw t, (rw t, (omega arith, (λ input s l. absurd (omega arith), record { behind = refl; output = λ (none : _≡_ {A = ℕ} 0 0). refl }))))
 
-  pub last-room : (middle : List ℕ) (w : ℕ) → LAST ≤ length output → w ≡ length (lastText c) → middle ≡ over output 0 (lastText c)
+  pub last-room : (middle : List ℕ) (w : ℕ) → FINAL ≤ length output → w ≡ length (lastText c) → middle ≡ withText output 0 (lastText c)
       → w + STATUS ≤ length middle
   last-room middle w h e t =
-      rw t (omega (arith, last-length c, over-length output 0 (lastText c) (omega (arith, last-length c))))
+      rw t (omega (arith, last-length c, withText-length output 0 (lastText c) (omega (arith, last-length c))))
 
-  pub finished-whole : (r w : ℕ) (middle exit : List ℕ) (u : U.Unit) (report : Report) → LAST ≤ length output
-      → u ≡ lastUnit c → w ≡ length (lastText c) → middle ≡ over output 0 (lastText c)
-      → report ≡ statusOf u → r ≡ w + length (statusText report) → exit ≡ over middle w (statusText report)
+  pub finished-whole : (r w : ℕ) (middle exit : List ℕ) (u : U.Unit) (report : Report) → FINAL ≤ length output
+      → u ≡ lastUnit c → w ≡ length (lastText c) → middle ≡ withText output 0 (lastText c)
+      → report ≡ statusOf u → r ≡ w + length (statusText report) → exit ≡ withText middle w (statusText report)
       → Finished r exit
   finished-whole r w middle exit u report h e p t q n x =
       let text = statusText (statusOf (lastUnit c)) in
       let whole : r ≡ length (finalText c) = rw (length-append (lastText c) text, n, p, q, e) in
       let here : w ≡ 0 + length (lastText c) = omega arith in
-      let over-all : exit ≡ over output 0 (finalText c) =
-      rw (x, t, here, q, e) (over-over output 0 (lastText c) text (omega (arith, last-length c, status-length (statusOf (lastUnit c))))) in
+      let buffer : exit ≡ withText output 0 (finalText c) =
+      rw (x, t, here, q, e) (withText-append output 0 (lastText c) text (omega (arith, last-length c, status-length (statusOf (lastUnit c))))) in
       let fits : 0 + length (finalText c) ≤ length output =
       rw (length-append (lastText c) text) (omega (arith, last-length c, status-length (statusOf (lastUnit c)))) in
-      let no = le-ltb (length output) LAST h in (
+      let behind : SameFrom r output exit = rw (buffer, whole) (withText-behind output (finalText c)) in
+      let no = le-ltb (length output) FINAL h in (
         rw no whole,
         (
-          rw no over-all,
+          rw no buffer,
           (
-            rw (over-all, whole) (omega (arith, over-length output 0 (finalText c) fits, fits)),
-            λ input s l. rw (whole, over-all, over-front output (finalText c)) (final-transcript c input s),
+            rw (buffer, whole) (omega (arith, withText-length output 0 (finalText c) fits, fits)),
+            (
+              λ input s l. rw (whole, buffer, withText-front output (finalText c)) (final-transcript c input s),
+              record { behind = behind; output = λ (none : r ≡ 0). rw none at behind },
+            ),
           ),
         ),
       )

@@ -4,6 +4,7 @@ pub mod LineLaws
 pub mod SplitLaws
 pub mod StandLaws
 pub mod PartLaws
+pub mod KeptLaws
 pub mod FeedLaws
 pub mod StatusLaws
 pub mod FinishLaws

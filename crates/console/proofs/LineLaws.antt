@@ -12,7 +12,7 @@ use lib.Seq.{take-all, length-take-le}
 use Rattle.laws.proofs.Bools.{either}
 use Rattle.line.specs.Read.{readOf}
 use Rattle.line.proofs.ReadLaws.{refused-length}
-use Rattle.unit.specs.Take.{takenOf, readBy}
+use Rattle.unit.specs.Take.{takenOf, takenRead}
 use Rattle.unit.specs.Reached.{after}
 use Rattle.unit.specs.declared.Unit as U
 use Rattle.console.specs.Text.{NEWLINE, answerText}
@@ -87,6 +87,6 @@ read-cut l h =
 pub taken-cut : (u : U.Unit) (l : List ℕ) → takenOf u (take HELD l) ≡ takenOf u l
 unfolding takenOf
 taken-cut u l =
-    ⊎-elim (λ e. ap (λ (m : List ℕ). readBy u (readOf m)) (take-all HELD l (leb-true (length l) HELD e)))
-    (λ e. ap (readBy u) (read-cut l (leb-false (length l) HELD e)))
+    ⊎-elim (λ e. ap (λ (m : List ℕ). takenRead u (readOf m)) (take-all HELD l (leb-true (length l) HELD e)))
+    (λ e. ap (takenRead u) (read-cut l (leb-false (length l) HELD e)))
     (either (leb (length l) HELD))

@@ -14,7 +14,7 @@ use lib.Seq.{take-suc, take-add, take-all, length-take-le}
 use Rattle.laws.proofs.Bools.{either, or-neither}
 use Rattle.laws.proofs.Gathered.{joined, with-the-next, each}
 use Rattle.console.specs.declared.Console.{Console}
-use Rattle.console.specs.Room.{ANSWER}
+use Rattle.console.specs.bounds.Room.{ANSWER}
 use Rattle.console.specs.Text.{NEWLINE}
 use Rattle.console.specs.Lines.{hasNewline}
 use Rattle.console.specs.State.{HELD, heldOf, steppedOf, stepText, consoleAfter, textAfter}

@@ -8,7 +8,7 @@ use lib.Dec.{eqb}
 use lib.Seq.{append-snoc}
 use Rattle.laws.proofs.Bools.{or-neither}
 use Rattle.console.specs.Text.{NEWLINE}
-use Rattle.console.specs.Lines.{endedAfter, restAfter, ended, rest, unlines, hasNewline, Split}
+use Rattle.console.specs.Lines.{endedAfter, restAfter, unlines, hasNewline, Split, SplitIs}
 
 more-clean : (p : List ℕ) (x : ℕ) → hasNewline p ≡ false → eqb x NEWLINE ≡ false → hasNewline (p ++ x ∷ []) ≡ false
 more-clean [] x h e = rw e
@@ -39,5 +39,5 @@ split-after p (x ∷ xs) h = go (split-after [] xs refl) (λ c. split-after (p +
         let s = more (more-clean p x h e) in
         record { whole = s .whole ∙ append-snoc p x xs; lines = s .lines; last = s .last }
 
-pub split : (input : List ℕ) → Split input (ended input) (rest input)
+pub split : SplitIs
 split input = split-after [] input refl

@@ -1,12 +1,15 @@
 -- What `feed` takes, hands back and writes.
 use Prim.Native.Nat.{ℕ, suc, _-_, _≤_, _<_}
-use mathlib.Core.Bool.{cond}
-use mathlib.Core.List.{List, [], _∷_}
+use mathlib.Core.Path.{_≡_}
+use mathlib.Core.Bool.{false, cond}
+use mathlib.Core.List.{List, [], _∷_, _++_}
 use lib.Dec.{ltb}
 use lib.ListN.{length, take}
-use Rattle.console.specs.Room.{ANSWER}
-use Rattle.console.specs.Buffer.{over}
-use Rattle.console.specs.State.{steppedOf, stepText, consoleAfter, textAfter}
+use Rattle.console.specs.bounds.Room.{ANSWER}
+use Rattle.console.specs.Buffer.{withText, SameFrom}
+use Rattle.console.specs.State.{steppedOf, stepText, accepts, consoleAfter, textAfter}
+use Rattle.console.specs.Stands.{Stands}
+use Rattle.console.specs.Transcript.{textOf}
 use Rattle.console.specs.declared.Console.{Console}
 use Rattle.console.specs.declared.Fed.{Fed}
 
@@ -27,10 +30,23 @@ fedOf c input room = record {
 }
 
 abbrev pub fedBuffer : Console → List ℕ → List ℕ → List ℕ
-fedBuffer c input output = over output 0 (textAfter c (takenBytes c input (length output)))
+fedBuffer c input output = withText output 0 (textAfter c (takenBytes c input (length output)))
 
 -- what is taken and written lies within the slices, and with an input and room for an answer something is taken
-pub record Within (input output : List ℕ) (r : Fed) : Type 0 where
+pub record Progress (input output : List ℕ) (r : Fed) : Type 0 where
   pub taken : r .taken ≤ length input
   pub written : r .written ≤ length output
   pub some : 0 < length input → ANSWER ≤ length output → 0 < r .taken
+
+-- whatever input stood before, the console now stands for that and what is taken, and what is written is what the text grew by
+pub record Continued (start : Console) (input output : List ℕ) (r : Fed) : Type 0 where
+  pub stands : (before : List ℕ) → Stands start before → Stands (r .console) (before ++ take (r .taken) input)
+  pub text : (before : List ℕ) → Stands start before → textOf (before ++ take (r .taken) input) ≡ textOf before ++ take (r .written) output
+
+-- A refusal changes nothing: the unit is the one given where no line that was taken is accepted. The output from `written` on is as it was, and
+-- where nothing is taken all is as it was.
+pub record FeedKept (start : Console) (input entry exit : List ℕ) (r : Fed) : Type 0 where
+  pub unit : accepts start (take (r .taken) input) ≡ false → r .console .unit ≡ start .unit
+  pub behind : SameFrom (r .written) entry exit
+  pub console : r .taken ≡ 0 → r .console ≡ start
+  pub output : r .taken ≡ 0 → exit ≡ entry

@@ -1,24 +1,31 @@
 -- What `finish` hands back and writes.
-use Prim.Native.Nat.{ℕ}
-use mathlib.Core.Bool.{cond}
+use Prim.Native.Nat.{ℕ, _≤_}
+use mathlib.Core.Path.{_≡_}
+use mathlib.Core.Bool.{Bool, cond}
 use mathlib.Core.List.{List, [], _++_}
 use lib.Dec.{ltb, eqb}
-use lib.ListN.{length}
+use lib.ListN.{length, take}
 use Rattle.unit.specs.Take.{takenOf}
 use Rattle.unit.specs.Status.{statusOf}
 use Rattle.unit.specs.declared.Unit as U
 use Rattle.console.specs.Text.{answerText, statusText}
-use Rattle.console.specs.Room.{LAST}
-use Rattle.console.specs.Buffer.{over}
+use Rattle.console.specs.bounds.Room.{FINAL}
+use Rattle.console.specs.Buffer.{withText, SameFrom}
 use Rattle.console.specs.State.{pending}
+use Rattle.console.specs.Stands.{Stands}
+use Rattle.console.specs.Transcript.{textOf, transcript}
 use Rattle.console.specs.declared.Console.{Console}
+
+-- the last line is ended, or empty
+abbrev pub nothingHeld : Console → Bool
+nothingHeld c = eqb (c .held) 0
 
 -- the end of the input: an unended last line is taken if not empty
 unfoldable pub lastUnit : Console → U.Unit
-lastUnit c = cond (eqb (c .held) 0) (c .unit) (takenOf (c .unit) (pending c) .unit)
+lastUnit c = cond (nothingHeld c) (c .unit) (takenOf (c .unit) (pending c) .unit)
 
 unfoldable pub lastText : Console → List ℕ
-lastText c = cond (eqb (c .held) 0) [] (answerText (takenOf (c .unit) (pending c) .event))
+lastText c = cond (nothingHeld c) [] (answerText (takenOf (c .unit) (pending c) .event))
 
 -- its answer, and the status
 abbrev pub finalText : Console → List ℕ
@@ -26,7 +33,16 @@ finalText c = lastText c ++ statusText (statusOf (lastUnit c))
 
 -- nothing is written to a shorter buffer
 abbrev pub finishedOf : Console → ℕ → ℕ
-finishedOf c room = cond (ltb room LAST) 0 (length (finalText c))
+finishedOf c room = cond (ltb room FINAL) 0 (length (finalText c))
 
 abbrev pub finishedBuffer : Console → List ℕ → List ℕ
-finishedBuffer c output = cond (ltb (length output) LAST) output (over output 0 (finalText c))
+finishedBuffer c output = cond (ltb (length output) FINAL) output (withText output 0 (finalText c))
+
+-- whatever input the console stands for: what is written is what its transcript has after the answers so far
+abbrev pub Completes : Console → List ℕ → List ℕ → ℕ → Type 0
+Completes c entry exit r = (input : List ℕ) → Stands c input → FINAL ≤ length entry → textOf input ++ take r exit ≡ transcript input
+
+-- the output from what is handed back on is as it was, and where that is 0 all of it is
+pub record FinishKept (entry exit : List ℕ) (r : ℕ) : Type 0 where
+  pub behind : SameFrom r entry exit
+  pub output : r ≡ 0 → exit ≡ entry

@@ -2,7 +2,7 @@
 pub mod Text
 pub mod Lines
 pub mod Transcript
-pub mod Room
+pub mod bounds
 pub mod Buffer
 pub mod State
 pub mod Stands

@@ -30,7 +30,7 @@ lastLine (x ∷ xs) = (x ∷ xs) ∷ []
 abbrev pub linesOf : List ℕ → List (List ℕ)
 linesOf input = ended input ++ lastLine (rest input)
 
--- What `ended` and `rest` are, as a law that is proved: the input is the ended lines, each with its newline, and the rest; and no newline stands in them.
+-- What `ended` and `rest` are, as a law that is proved (`split` of proofs/SplitLaws): the input is the ended lines, each with its newline, and the rest; and no newline stands in them.
 abbrev pub unlines : List (List ℕ) → List ℕ
 unlines [] = []
 unlines (l ∷ ls) = l ++ NEWLINE ∷ unlines ls
@@ -47,3 +47,6 @@ pub record Split (input : List ℕ) (ls : List (List ℕ)) (unended : List ℕ) 
   pub whole : unlines ls ++ unended ≡ input
   pub lines : anyNewline ls ≡ false
   pub last : hasNewline unended ≡ false
+
+abbrev pub SplitIs : Type 0
+SplitIs = (input : List ℕ) → Split input (ended input) (rest input)

@@ -1,10 +1,11 @@
 -- What the console holds, and what a byte of the input does to it. What all of it comes to is `transcript`.
 use Prim.Native.Nat.{ℕ, suc, _+_}
-use mathlib.Core.Bool.{cond}
+use mathlib.Core.Bool.{Bool, false, cond, _&&_, _||_}
 use mathlib.Core.List.{List, [], _∷_, _++_}
 use lib.Dec.{ltb, eqb}
 use lib.ListN.{take, set, replicate}
 use Rattle.line.specs.Digits.{lineLength}
+use Rattle.unit.specs.Claim.{isAccepted}
 use Rattle.unit.specs.Take.{newUnit, takenOf}
 use Rattle.console.specs.Text.{NEWLINE, answerText}
 use Rattle.console.specs.declared.Console.{Console}
@@ -33,6 +34,11 @@ steppedOf c x = cond (eqb x NEWLINE) (endedOf c) (heldOf c x)
 
 unfoldable pub stepText : Console → ℕ → List ℕ
 stepText c x = cond (eqb x NEWLINE) (answerText (takenOf (c .unit) (pending c) .event)) []
+
+-- whether a line that the bytes ended was accepted
+abbrev pub accepts : Console → List ℕ → Bool
+accepts c [] = false
+accepts c (x ∷ xs) = (eqb x NEWLINE && isAccepted (takenOf (c .unit) (pending c) .event)) || accepts (steppedOf c x) xs
 
 -- the console after bytes, and the text of their answers
 abbrev pub consoleAfter : Console → List ℕ → Console

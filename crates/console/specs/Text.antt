@@ -6,10 +6,10 @@ use lib.IntN.{ℤ, pos, negsuc}
 use lib.ListN.{getD}
 use Rattle.line.specs.Digits.{digitsOf}
 use Rattle.line.specs.Fields.{bytes2, bytes4}
-use Rattle.unit.specs.Claim.{CHARTS, bitAt, noRow}
+use Rattle.unit.specs.Claim.{CHARTS, bitAt, noReport}
 use Rattle.unit.specs.Event.{eventByte, numberByte}
 use Rattle.unit.specs.declared.event.Event.{Event}
-use Rattle.unit.specs.declared.report.Row.{Row}
+use Rattle.unit.specs.declared.report.ChartReport.{ChartReport}
 use Rattle.unit.specs.declared.report.Report.{Report}
 
 -- the number of the newline
@@ -38,17 +38,17 @@ bitsOf (pos n) = n
 bitsOf (negsuc n) = 2 ^ 32 - suc n
 
 -- chart 1 byte, first sample 2, last 2, value 4
-abbrev pub runBytes : ℕ → Row → List ℕ
-runBytes chart row = chart ∷ bytes2 (row .first) ++ bytes2 (row .last) ++ bytes4 (bitsOf (row .value))
+abbrev pub runBytes : ℕ → ChartReport → List ℕ
+runBytes chart run = chart ∷ bytes2 (run .first) ++ bytes2 (run .last) ++ bytes4 (bitsOf (run .value))
 
 -- a line if the chart's bit is set: bit = chart number
-unfoldable pub chartText : ℕ → ℕ → Row → List ℕ
-chartText mask chart row = cond (bitAt chart mask) (lineText (runBytes chart row)) []
+unfoldable pub chartText : ℕ → ℕ → ChartReport → List ℕ
+chartText mask chart run = cond (bitAt chart mask) (lineText (runBytes chart run)) []
 
 -- a line per set bit below n, lowest first
-unfoldable pub runTexts : ℕ → List Row → ℕ → List ℕ
-runTexts mask rows zero = []
-runTexts mask rows (suc chart) = runTexts mask rows chart ++ chartText mask chart (getD rows chart noRow)
+unfoldable pub runTexts : ℕ → List ChartReport → ℕ → List ℕ
+runTexts mask charts zero = []
+runTexts mask charts (suc chart) = runTexts mask charts chart ++ chartText mask chart (getD charts chart noReport)
 
 abbrev pub statusText : Report → List ℕ
-statusText r = lineText (stageBytes r) ++ runTexts (r .mask) (r .rows) CHARTS
+statusText r = lineText (stageBytes r) ++ runTexts (r .mask) (r .charts) CHARTS

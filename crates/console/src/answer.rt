@@ -7,7 +7,7 @@ ghost use Prim.Native.Nat.{_+_, _≤_};
 ghost use lib.ListN.{length};
 ghost use Rattle.unit.specs.Event.{eventByte, numberByte};
 ghost use Rattle.console.specs.Text.{answerText};
-ghost use Rattle.console.specs.Buffer.{over};
+ghost use Rattle.console.specs.Buffer.{withText};
 
 // How many bytes an answer has: two digits to a byte, and a newline.
 pub const ANSWER: usize = 5;
@@ -46,7 +46,7 @@ fn number_byte(event: Event) -> u8
 pub fn put_answer(event: Event, buffer: &mut [u8], at: usize) -> usize
     requires { ⌜ at + length (answerText event) ≤ length (now buffer) ⌝ }
     ensures place { λ r. ⌜ r ≡ at + length (answerText event) ⌝ }
-    ensures text { λ r. ⌜ now (buffer .exit) ≡ over (now (buffer .entry)) at (answerText event) ⌝ }
+    ensures text { λ r. ⌜ now (buffer .exit) ≡ withText (now (buffer .entry)) at (answerText event) ⌝ }
 {
     let bytes = [event_byte(event), number_byte(event)];
     put_line(&bytes, buffer, at)

@@ -18,24 +18,22 @@ use unit::status;
 use unit::take;
 ghost use mathlib.Core.Path.{_≡_};
 ghost use mathlib.Core.Bool.{false};
-ghost use Prim.Native.Nat.{ℕ, _≤_};
-ghost use mathlib.Core.List.{List, _++_};
-ghost use lib.ListN.{length, take};
-ghost use Rattle.console.specs.Transcript.{textOf, transcript};
-ghost use Rattle.console.specs.Buffer.{over};
-ghost use Rattle.console.specs.Room.{ANSWER, LAST};
+ghost use Prim.Native.Nat.{_≤_};
+ghost use lib.ListN.{length};
+ghost use Rattle.console.specs.Buffer.{withText};
+ghost use Rattle.console.specs.bounds.Room.{ANSWER, FINAL};
 ghost use Rattle.console.specs.Lines.{hasNewline};
 ghost use Rattle.console.specs.State.{newConsole, consoleAfter};
-ghost use Rattle.console.specs.Stands.{Stands, Reached};
-ghost use Rattle.console.specs.Feed.{fedOf, fedBuffer, Within};
-ghost use Rattle.console.specs.Finish.{lastUnit, lastText, finishedOf, finishedBuffer};
+ghost use Rattle.console.specs.Stands.{Reached};
+ghost use Rattle.console.specs.Feed.{fedOf, fedBuffer, Progress, Continued, FeedKept};
+ghost use Rattle.console.specs.Finish.{lastUnit, lastText, finishedOf, finishedBuffer, Completes, FinishKept};
 
 // How many bytes of a line not yet ended are held. A line that has come to so many can only be
 // refused for its length, however long it grows.
 const HELD: usize = DIGITS + 1;
 
 // How many bytes the end has at most: the unended line's answer, and the status.
-pub const LAST: usize = ANSWER + STATUS;
+const FINAL: usize = ANSWER + STATUS;
 
 // A unit, and the part of a line not yet ended: the first `held` bytes of `bytes`.
 pub struct Console {
@@ -81,15 +79,18 @@ fn hold(console: Console, part: &[u8]) -> Console
 
 // Takes the input line by line and answers each that ends, while the output has room for one more
 // answer.
+// `whole`, `bytes`: what is handed back and every byte of the output are the definitions'. `reached`:
+// the console is one that our calls made. `progress`: something is taken where there is room.
+// `stands`: what is written so far is the transcript's, whatever pieces the input comes in. `kept`: a
+// refusal changes nothing.
 pub fn feed(start: Console, input: &[u8], output: &mut [u8]) -> Fed
     requires { ⌜ Reached start ⌝ }
     ensures whole { λ r. ⌜ r ≡ fedOf start (now (input .entry)) (length (now (output .entry))) ⌝ }
     ensures bytes { λ r. ⌜ now (output .exit) ≡ fedBuffer start (now (input .entry)) (now (output .entry)) ⌝ }
     ensures reached { λ r. ⌜ Reached (r .console) ⌝ }
-    ensures within { λ r. ⌜ Within (now (input .entry)) (now (output .exit)) r ⌝ }
-    ensures stands { λ r. ⌜ ((before : List ℕ) → Stands start before
-        → Stands (r .console) (before ++ take (r .taken) (now (input .entry)))
-        × (textOf (before ++ take (r .taken) (now (input .entry))) ≡ textOf before ++ take (r .written) (now (output .exit)))) ⌝ }
+    ensures progress { λ r. ⌜ Progress (now (input .entry)) (now (output .exit)) r ⌝ }
+    ensures stands { λ r. ⌜ Continued start (now (input .entry)) (now (output .exit)) r ⌝ }
+    ensures kept { λ r. ⌜ FeedKept start (now (input .entry)) (now (output .entry)) (now (output .exit)) r ⌝ }
 {
     let mut console = start;
     let mut taken = 0;
@@ -133,7 +134,7 @@ fn end_line(console: Console, output: &mut [u8]) -> Last
     requires { ⌜ Reached console × (ANSWER ≤ length (now output)) ⌝ }
     ensures unit { λ r. ⌜ r .unit ≡ lastUnit console ⌝ }
     ensures place { λ r. ⌜ r .written ≡ length (lastText console) ⌝ }
-    ensures text { λ r. ⌜ now (output .exit) ≡ over (now (output .entry)) 0 (lastText console) ⌝ }
+    ensures text { λ r. ⌜ now (output .exit) ≡ withText (now (output .entry)) 0 (lastText console) ⌝ }
 {
     let unit = console.unit;
     if console.held == 0 {
@@ -150,15 +151,18 @@ fn end_line(console: Console, output: &mut [u8]) -> Last
 }
 
 // Ends the last line and writes the status. To a buffer that could be too short nothing is written.
+// `whole`, `bytes`: what is handed back and every byte of the output are the definitions'.
+// `transcript`: what `feed` and this wrote is the transcript of the whole input. `kept`: the rest of
+// the output is as it was.
 pub fn finish(console: Console, output: &mut [u8]) -> usize
     requires { ⌜ Reached console ⌝ }
     ensures whole { λ r. ⌜ r ≡ finishedOf console (length (now (output .entry))) ⌝ }
     ensures bytes { λ r. ⌜ now (output .exit) ≡ finishedBuffer console (now (output .entry)) ⌝ }
     ensures within { λ r. ⌜ r ≤ length (now (output .exit)) ⌝ }
-    ensures transcript { λ r. ⌜ ((input : List ℕ) → Stands console input → LAST ≤ length (now (output .entry))
-        → textOf input ++ take r (now (output .exit)) ≡ transcript input) ⌝ }
+    ensures transcript { λ r. ⌜ Completes console (now (output .entry)) (now (output .exit)) r ⌝ }
+    ensures kept { λ r. ⌜ FinishKept (now (output .entry)) (now (output .exit)) r ⌝ }
 {
-    if output.len() < LAST {
+    if output.len() < FINAL {
         return 0;
     }
     let last = end_line(console, output);

@@ -1,15 +1,15 @@
 // The status line, and a line for each chart that is over.
 
 use crate::text::put_line;
+use unit::report::ChartReport;
 use unit::report::Report;
-use unit::report::Row;
 ghost use mathlib.Core.Path.{_≡_};
 ghost use Prim.Native.Nat.{_+_, _<_, _≤_, _/_, _%_};
 ghost use lib.ListN.{length};
 ghost use Rattle.unit.specs.Claim.{CHARTS};
 ghost use Rattle.console.specs.Text.{bitsOf, missesByte, stageBytes, runBytes, chartText, runTexts, statusText};
-ghost use Rattle.console.specs.Room.{RUNS, STATUS};
-ghost use Rattle.console.specs.Buffer.{over};
+ghost use Rattle.console.specs.bounds.Room.{RUNS, STATUS};
+ghost use Rattle.console.specs.Buffer.{withText};
 
 // 4 charts for each of 4 analytes.
 const CHARTS: u8 = 16;
@@ -63,18 +63,18 @@ fn stage_bytes(report: Report) -> [u8; 6]
     ]
 }
 
-fn run_bytes(chart: u8, row: Row) -> [u8; 9]
-    ensures { λ r. ⌜ r ≡ runBytes chart row ⌝ }
+fn run_bytes(chart: u8, run: ChartReport) -> [u8; 9]
+    ensures { λ r. ⌜ r ≡ runBytes chart run ⌝ }
 {
-    let value = bits_of(row.value);
+    let value = bits_of(run.value);
     let upper = (value / 65536) as u16;
     let lower = (value % 65536) as u16;
     [
         chart,
-        high(row.first),
-        low(row.first),
-        high(row.last),
-        low(row.last),
+        high(run.first),
+        low(run.first),
+        high(run.last),
+        low(run.last),
         high(upper),
         low(upper),
         high(lower),
@@ -83,31 +83,31 @@ fn run_bytes(chart: u8, row: Row) -> [u8; 9]
 }
 
 // Puts the line of a chart into the buffer, if its bit is set.
-fn put_chart(mask: u16, chart: u8, row: Row, buffer: &mut [u8], at: usize) -> usize
-    requires { ⌜ (chart < CHARTS) × (at + length (chartText mask chart row) ≤ length (now buffer)) ⌝ }
-    ensures place { λ r. ⌜ r ≡ at + length (chartText mask chart row) ⌝ }
-    ensures text { λ r. ⌜ now (buffer .exit) ≡ over (now (buffer .entry)) at (chartText mask chart row) ⌝ }
+fn put_chart(mask: u16, chart: u8, run: ChartReport, buffer: &mut [u8], at: usize) -> usize
+    requires { ⌜ (chart < CHARTS) × (at + length (chartText mask chart run) ≤ length (now buffer)) ⌝ }
+    ensures place { λ r. ⌜ r ≡ at + length (chartText mask chart run) ⌝ }
+    ensures text { λ r. ⌜ now (buffer .exit) ≡ withText (now (buffer .entry)) at (chartText mask chart run) ⌝ }
 {
     if (mask >> chart) % 2 != 1 {
         return at;
     }
-    let bytes = run_bytes(chart, row);
+    let bytes = run_bytes(chart, run);
     put_line(&bytes, buffer, at)
 }
 
 // Puts a line for each set bit into the buffer, lowest first.
 fn put_charts(report: Report, buffer: &mut [u8], at: usize) -> usize
     requires { ⌜ at + RUNS ≤ length (now buffer) ⌝ }
-    ensures place { λ r. ⌜ r ≡ at + length (runTexts (report .mask) (report .rows) CHARTS) ⌝ }
-    ensures text { λ r. ⌜ now (buffer .exit) ≡ over (now (buffer .entry)) at (runTexts (report .mask) (report .rows) CHARTS) ⌝ }
+    ensures place { λ r. ⌜ r ≡ at + length (runTexts (report .mask) (report .charts) CHARTS) ⌝ }
+    ensures text { λ r. ⌜ now (buffer .exit) ≡ withText (now (buffer .entry)) at (runTexts (report .mask) (report .charts) CHARTS) ⌝ }
 {
     let mask = report.mask;
-    let rows = report.rows;
+    let charts = report.charts;
     let mut to = at;
     let mut chart: u8 = 0;
     while chart < CHARTS {
-        let row = rows[chart as usize];
-        to = put_chart(mask, chart, row, buffer, to);
+        let run = charts[chart as usize];
+        to = put_chart(mask, chart, run, buffer, to);
         chart += 1;
     }
     to
@@ -117,7 +117,7 @@ fn put_charts(report: Report, buffer: &mut [u8], at: usize) -> usize
 pub fn put_status(report: Report, buffer: &mut [u8], at: usize) -> usize
     requires { ⌜ at + STATUS ≤ length (now buffer) ⌝ }
     ensures place { λ r. ⌜ r ≡ at + length (statusText report) ⌝ }
-    ensures text { λ r. ⌜ now (buffer .exit) ≡ over (now (buffer .entry)) at (statusText report) ⌝ }
+    ensures text { λ r. ⌜ now (buffer .exit) ≡ withText (now (buffer .entry)) at (statusText report) ⌝ }
 {
     let bytes = stage_bytes(report);
     let to = put_line(&bytes, buffer, at);

@@ -6,7 +6,7 @@ ghost use mathlib.Core.Path.{_≡_};
 ghost use Prim.Native.Nat.{_+_, _≤_};
 ghost use lib.ListN.{length};
 ghost use Rattle.console.specs.Text.{lineText};
-ghost use Rattle.console.specs.Buffer.{over};
+ghost use Rattle.console.specs.Buffer.{withText};
 
 pub const NEWLINE: u8 = 10;
 
@@ -15,7 +15,7 @@ pub const NEWLINE: u8 = 10;
 pub fn put_line(bytes: &[u8], buffer: &mut [u8], at: usize) -> usize
     requires { ⌜ at + length (lineText (now bytes)) ≤ length (now buffer) ⌝ }
     ensures place { λ r. ⌜ r ≡ at + length (lineText (now (bytes .entry))) ⌝ }
-    ensures text { λ r. ⌜ now (buffer .exit) ≡ over (now (buffer .entry)) at (lineText (now (bytes .entry))) ⌝ }
+    ensures text { λ r. ⌜ now (buffer .exit) ≡ withText (now (buffer .entry)) at (lineText (now (bytes .entry))) ⌝ }
 {
     let mut to = at;
     let mut i = 0;

@@ -1,18 +1,18 @@
 // Answers the lines of standard input on standard output, and then gives the status. Where a read
 // or a write fails it stops.
 use console::Console;
-use console::LAST;
 use console::feed;
 use console::finish;
 use console::new_console;
 use libc::STDIN_FILENO;
 use libc::STDOUT_FILENO;
-ghost use Prim.Native.Nat.{_≤_, _<_};
-ghost use mathlib.Core.Bool.{false};
-ghost use mathlib.Core.Path.{_≡_};
+ghost use Prim.Native.Nat.{_≤_};
 ghost use lib.ListN.{length};
-ghost use Rattle.console.specs.Room.{ANSWER, LAST};
+ghost use Rattle.console.specs.bounds.Room.{FINAL};
 ghost use Rattle.console.specs.Stands.{Reached};
+
+// How many bytes are read at once, and written at once at most: far more than the end has.
+const BUFFER: usize = 65536;
 
 // A console between two pieces of the input: whether more is to be read, and whether no read or
 // write has failed.
@@ -24,7 +24,7 @@ struct Turn {
 
 // Feeds a piece of the input, and writes the answers whenever the output has no more room.
 fn answer(start: Console, piece: &[u8], output: &mut [u8]) -> Turn
-    requires { ⌜ Reached start × (ANSWER ≤ length (now output)) ⌝ }
+    requires { ⌜ Reached start × (FINAL ≤ length (now output)) ⌝ }
     ensures { λ r. ⌜ Reached (r .console) ⌝ }
 {
     let mut console = start;
@@ -46,7 +46,7 @@ fn answer(start: Console, piece: &[u8], output: &mut [u8]) -> Turn
 
 // Reads a piece of the input and answers it.
 fn take_turn(console: Console, input: &mut [u8], output: &mut [u8]) -> Turn
-    requires { ⌜ Reached console × (ANSWER ≤ length (now output)) ⌝ }
+    requires { ⌜ Reached console × (FINAL ≤ length (now output)) ⌝ }
     ensures { λ r. ⌜ Reached (r .console) ⌝ }
 {
     let got = libc::read(STDIN_FILENO, input);
@@ -61,10 +61,11 @@ fn take_turn(console: Console, input: &mut [u8], output: &mut [u8]) -> Turn
     answer(console, &input[..n], output)
 }
 
-// Answers the whole input. A proved loop has to end, and nothing says that the input does: the
-// loop counts its turns down, from a number that no run uses up.
-fn converse(input: &mut [u8], output: &mut [u8]) -> bool
-    requires { ⌜ ANSWER ≤ length (now output) ⌝ }
+// Answers the whole input and then gives the status, if no read or write failed. A proved loop has
+// to end, and nothing says that the input does: the loop counts its turns down, from a number that
+// no run uses up.
+fn converse(input: &mut [u8], output: &mut [u8])
+    requires { ⌜ FINAL ≤ length (now output) ⌝ }
 {
     let mut console = new_console();
     let mut more = true;
@@ -79,19 +80,15 @@ fn converse(input: &mut [u8], output: &mut [u8]) -> bool
     }
     if good {
         let written = finish(console, output);
-        return io::write_all(STDOUT_FILENO, &output[..written]);
+        io::write_all(STDOUT_FILENO, &output[..written]);
     }
-    false
 }
 
-// Answers the lines of standard input on standard output by way of two buffers, and says whether
-// no read or write failed. An output buffer that could be too short for the end is refused, before
-// anything is read. What is read and written no contract can say.
-pub fn run(input: &mut [u8], output: &mut [u8]) -> bool
-    ensures { λ r. ⌜ (length (now (output .entry)) < LAST → (r ≡ false) × (now (input .exit) ≡ now (input .entry)) × (now (output .exit) ≡ now (output .entry))) ⌝ }
-{
-    if output.len() < LAST {
-        return false;
-    }
-    converse(input, output)
+// Answers the lines of standard input on standard output, and then gives the status. It takes, lends
+// and hands back nothing. No contract can speak of what is read and written: that each piece is fed
+// and what is fed is written is read off the code above.
+pub fn run() {
+    let mut input = [0u8; BUFFER];
+    let mut output = [0u8; BUFFER];
+    converse(&mut input, &mut output);
 }

@@ -8,13 +8,13 @@ use denote.Ref.{now}
 use lib.ListN.{length, take, drop, getD}
 use lib.Seq.{length-take-le, take-take, getD-take, getD-drop}
 use Rattle.laws.proofs.Bools.{and-both}
-use Rattle.console.specs.Room.{ANSWER}
+use Rattle.console.specs.bounds.Room.{ANSWER}
 use Rattle.console.proofs.StandLaws.{reached}
 use Rattle.console.specs.Text.{NEWLINE, answerText}
 use Rattle.console.specs.Lines.{hasNewline}
 use Rattle.console.specs.Stands.{Reached}
 use Rattle.console.proofs.PartLaws.{part-length}
-use Rattle.console.proofs.FeedLaws.{Going, going-start, going-part, going-line, going-length, going-made, going-stands, answer-length, fed, fed-within}
+use Rattle.console.proofs.FeedLaws.{Going, going-start, going-part, going-line, going-length, going-made, going-stands, going-kept, answer-length, fed, fed-progress}
 use Rattle.console.proofs.feed.Statement.{statement}
 use Rattle.console.proofs.feed.Tie as tie
 
@@ -162,8 +162,8 @@ returns c =
         (
           going-made (at .inv .0) (at .inv .1),
           (
-            fed-within (at .inv .1) (c .loop-test .left),
-            going-stands (at .inv .1),
+            fed-progress (at .inv .1) (c .loop-test .left),
+            (going-stands (at .inv .1), going-kept (at .inv .1)),
           ),
         ),
       ),

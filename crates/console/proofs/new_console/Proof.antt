@@ -12,7 +12,7 @@ new-unit-requires c κs = search needs
 
 returns : tie.Need-returns
 unfolding endedAfter restAfter
-returns c = (rw (c .new-unit .ensures), ([], record { unit = c .new-unit .ensures; fits = omega arith; size = refl; part = refl }))
+returns c = (rw (c .new-unit .ensures .0), ([], record { unit = c .new-unit .ensures .0; fits = omega arith; size = refl; part = refl }))
 
 pub new-console-spec : {M : Type 1} → statement M
 new-console-spec = tie.close (tie.spec new-unit-requires returns)

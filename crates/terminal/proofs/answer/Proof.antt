@@ -10,14 +10,15 @@ use lib.Dec.{ltb}
 use lib.ListN.{length, take, drop, length-take, length-drop}
 use lib.Seq.{length-take-le}
 use Rattle.laws.proofs.Bools.{and-both}
-use Rattle.console.specs.Room.{ANSWER}
+use Rattle.console.specs.bounds.Room.{FINAL}
 use Rattle.console.specs.Stands.{Reached}
-use Rattle.console.specs.Feed.{Within}
+use Rattle.console.specs.Feed.{Progress}
 use Rattle.terminal.proofs.answer.Statement.{statement}
 use Rattle.terminal.proofs.answer.Tie as tie
 
 abbrev Inv-loop : tie.InvT-loop
-Inv-loop piece output₀ console₀ at₀ good₀ output console at good = Reached console × (at ≤ length piece) × (ANSWER ≤ length output) × (length output ≡ length output₀)
+Inv-loop piece output₀ console₀ at₀ good₀ output console at good =
+    Reached console × (at ≤ length piece) × (FINAL ≤ length output) × (length output ≡ length output₀)
 
 abbrev μ-loop : tie.MeasureT-loop
 μ-loop piece output₀ console₀ at₀ good₀ output console at good = length piece - at
@@ -35,7 +36,7 @@ moved : (c : tie.After-feed Inv-loop μ-loop)
 moved c =
     let at = c .before .before .before .before .loop in
     let piece = now (c .before .before .before .before .before .before .before .args .piece) in
-    let w : Within (take (length piece - at .at) (drop (at .at) piece)) (c .feed .last .1 .1 .0) (c .feed .result) = c .feed .ensures .1 .1 .1 .0 in
+    let w : Progress (take (length piece - at .at) (drop (at .at) piece)) (c .feed .last .1 .1 .0) (c .feed .result) = c .feed .ensures .1 .1 .1 .0 in
     let more : at .at < length piece = ltb-true _ _ (and-both (at .good) (ltb (at .at) (length piece)) (c .before .before .before .loop-test .taken) .1) in
     let size : length (take (length piece - at .at) (drop (at .at) piece)) ≡ length piece - at .at = simp (length-take, length-drop) (omega arith) in
     let same : length (c .feed .last .1 .1 .0) ≡ length (at .output) = c .feed .kept .1 .1 .0 in

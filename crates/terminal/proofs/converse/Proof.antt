@@ -8,13 +8,14 @@ use lib.Dec.{ltb}
 use lib.ListN.{length}
 use lib.Seq.{length-take-le}
 use Rattle.laws.proofs.Bools.{and-both}
-use Rattle.console.specs.Room.{ANSWER}
+use Rattle.console.specs.bounds.Room.{FINAL}
 use Rattle.console.specs.Stands.{Reached}
 use Rattle.terminal.proofs.converse.Statement.{statement}
 use Rattle.terminal.proofs.converse.Tie as tie
 
 abbrev Inv-loop : tie.InvT-loop
-Inv-loop input₀ output₀ console₀ more₀ good₀ turns₀ input output console more good turns = Reached console × (ANSWER ≤ length output) × (length input ≡ length input₀) × (length output ≡ length output₀)
+Inv-loop input₀ output₀ console₀ more₀ good₀ turns₀ input output console more good turns =
+    Reached console × (FINAL ≤ length output) × (length input ≡ length input₀) × (length output ≡ length output₀)
 
 abbrev μ-loop : tie.MeasureT-loop
 μ-loop input₀ output₀ console₀ more₀ good₀ turns₀ input output console more good turns = turns

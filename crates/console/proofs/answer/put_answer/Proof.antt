@@ -6,7 +6,7 @@ use denote.Ref.{now}
 use lib.ListN.{length}
 use Rattle.unit.specs.Event.{eventByte, numberByte}
 use Rattle.console.specs.Text.{lineText}
-use Rattle.console.specs.Buffer.{over}
+use Rattle.console.specs.Buffer.{withText}
 use borrow.Author.Needs.{needs}
 use Rattle.console.proofs.answer.put_answer.Statement.{statement}
 use Rattle.console.proofs.answer.put_answer.Tie as tie
@@ -32,7 +32,7 @@ returns c =
     let put = c .before .before .put-line .ensures in
     let same : (c .before .before .before .before .before .before .event-byte .result ∷ c .before .before .before .before .before .number-byte .result ∷ []) ≡ (eventByte (start .event) ∷ numberByte (start .event) ∷ []) =
     ap₂ (λ (a b : ℕ). a ∷ b ∷ []) (c .before .before .before .before .before .before .event-byte .ensures) (c .before .before .before .before .before .number-byte .ensures) in
-    (put .0 ∙ ap (λ (b : List ℕ). start .at + length (lineText b)) same, put .1 ∙ ap (λ (b : List ℕ). over (now (start .buffer)) (start .at) (lineText b)) same)
+    (put .0 ∙ ap (λ (b : List ℕ). start .at + length (lineText b)) same, put .1 ∙ ap (λ (b : List ℕ). withText (now (start .buffer)) (start .at) (lineText b)) same)
 
 pub put-answer-spec : {M : Type 1} → statement M
 put-answer-spec =

@@ -1,33 +1,33 @@
--- `put_charts` meets its contract. The loop's invariant: the lines of the charts so far stand over the buffer. Assumes nothing.
+-- `put_charts` meets its contract. The loop's invariant: the lines of the charts so far stand in the buffer. Assumes nothing.
 use borrow.Author.Needs.{needs}
 use native.Mathlib.Omega.{arith}
 use Prim.Native.Nat.{_+_, _-_, _≤_}
 use mathlib.Core.Path.{_≡_, refl}
 use lib.ListN.{length}
 use Rattle.unit.specs.Claim.{CHARTS}
-use Rattle.console.specs.Room.{RUNS}
+use Rattle.console.specs.bounds.Room.{RUNS}
 use Rattle.console.proofs.StatusLaws.{Charted, charted-none, charted-more, charted-length, charted-fits}
 use Rattle.console.proofs.report.put_charts.Statement.{statement}
 use Rattle.console.proofs.report.put_charts.Tie as tie
 
 abbrev Inv-loop : tie.InvT-loop
-Inv-loop buffer₀ at mask rows to₀ chart₀ buffer to chart =
-    (at + RUNS ≤ length buffer₀) × Charted mask rows buffer₀ at buffer to chart
+Inv-loop buffer₀ at mask charts to₀ chart₀ buffer to chart =
+    (at + RUNS ≤ length buffer₀) × Charted mask charts buffer₀ at buffer to chart
 
 abbrev μ-loop : tie.MeasureT-loop
-μ-loop buffer₀ at mask rows to₀ chart₀ buffer to chart = CHARTS - chart
+μ-loop buffer₀ at mask charts to₀ chart₀ buffer to chart = CHARTS - chart
 
 loop-holds : tie.Need-loop-holds Inv-loop μ-loop
 loop-holds c = (c .before .before .pre, charted-none _ _ _ _)
 
-cast-row : tie.Need-cast-row Inv-loop μ-loop
-cast-row c = search needs
+cast-run : tie.Need-cast-run Inv-loop μ-loop
+cast-run c = search needs
 
-mul-row : tie.Need-mul-row Inv-loop μ-loop
-mul-row c = search needs
+mul-run : tie.Need-mul-run Inv-loop μ-loop
+mul-run c = search needs
 
-array-copy-out-row : tie.Need-array-copy-out-row Inv-loop μ-loop
-array-copy-out-row c = search needs
+array-copy-out-run : tie.Need-array-copy-out-run Inv-loop μ-loop
+array-copy-out-run c = search needs
 
 put-chart-requires : tie.Need-put-chart-requires Inv-loop μ-loop
 put-chart-requires c κs =
@@ -62,9 +62,9 @@ put-charts-spec =
     Inv-loop
     μ-loop
     loop-holds
-    cast-row
-    mul-row
-    array-copy-out-row
+    cast-run
+    mul-run
+    array-copy-out-run
     put-chart-requires
     add-chart
     loop-less

@@ -5,7 +5,7 @@ use mathlib.Core.Path.{ap, _∙_}
 use mathlib.Core.List.{List}
 use denote.Ref.{now}
 use lib.ListN.{length}
-use Rattle.console.specs.Buffer.{over}
+use Rattle.console.specs.Buffer.{withText}
 use Rattle.console.specs.Text.{lineText, stageBytes}
 use Rattle.console.proofs.BufferLaws.{line-length}
 use Rattle.console.proofs.StatusLaws.{status-room, status-put}
@@ -30,7 +30,7 @@ put-charts-requires c κs =
     let put = c .before .before .before .put-line .ensures in
     let bytes = c .before .before .before .before .before .before .stage-bytes .ensures in
     status-room (start .args .report) (now (start .args .buffer)) _ (start .args .at) _ (start .pre) (put .0 ∙ ap (λ (b : List ℕ). start .args .at + length (lineText b)) bytes)
-    (put .1 ∙ ap (λ (b : List ℕ). over (now (start .args .buffer)) (start .args .at) (lineText b)) bytes)
+    (put .1 ∙ ap (λ (b : List ℕ). withText (now (start .args .buffer)) (start .args .at) (lineText b)) bytes)
 
 same-length : tie.Need-same-length
 same-length c = search needs
@@ -42,7 +42,7 @@ returns c =
     let bytes = c .before .before .before .before .before .before .before .before .before .stage-bytes .ensures in
     let more = c .before .before .put-charts .ensures in
     status-put (start .args .report) (now (start .args .buffer)) _ (start .args .at) _ (start .pre) (put .0 ∙ ap (λ (b : List ℕ). start .args .at + length (lineText b)) bytes)
-    (put .1 ∙ ap (λ (b : List ℕ). over (now (start .args .buffer)) (start .args .at) (lineText b)) bytes) _ _ (more .0) (more .1)
+    (put .1 ∙ ap (λ (b : List ℕ). withText (now (start .args .buffer)) (start .args .at) (lineText b)) bytes) _ _ (more .0) (more .1)
 
 pub put-status-spec : {M : Type 1} → statement M
 put-status-spec =

@@ -44,10 +44,10 @@ low-requires-4 c κs = search needs
 
 returns : tie.Need-returns
 returns c =
-    let row = c .before .before .before .before .before .before .before .before .before .before .args .row in
-    let back : toZ w32 (ofZ w32 (row .value)) ≡ row .value = toZ-ofZ (search needs) in
+    let run = c .before .before .before .before .before .before .before .before .before .before .args .run in
+    let back : toZ w32 (ofZ w32 (run .value)) ≡ run .value = toZ-ofZ (search needs) in
     rw
-    (sym (bytes-by-halves (bitsOf (row .value))), c .before .before .before .before .before .before .before .high .ensures, c .before .before .before .before .before .before .low .ensures, c .before .before .before .before .before .high2 .ensures, c .before .before .before .before .low2 .ensures, c .before .before .before .high3 .ensures, c .before .before .low3 .ensures, c .before .high4 .ensures, c .low4 .ensures, c .before .before .before .before .before .before .before .before .bits-of .ensures, back)
+    (sym (bytes-by-halves (bitsOf (run .value))), c .before .before .before .before .before .before .before .high .ensures, c .before .before .before .before .before .before .low .ensures, c .before .before .before .before .before .high2 .ensures, c .before .before .before .before .low2 .ensures, c .before .before .before .high3 .ensures, c .before .before .low3 .ensures, c .before .high4 .ensures, c .low4 .ensures, c .before .before .before .before .before .before .before .before .bits-of .ensures, back)
 
 pub run-bytes-spec : {M : Type 1} → statement M
 run-bytes-spec =

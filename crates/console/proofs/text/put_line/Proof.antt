@@ -1,4 +1,4 @@
--- `put_line` meets its contract. The loop's invariant: the digits of the first i bytes stand over the buffer, from `at` on. Assumes nothing.
+-- `put_line` meets its contract. The loop's invariant: the digits of the first i bytes stand in the buffer, from `at` on. Assumes nothing.
 use borrow.Author.Needs.{needs}
 use native.Mathlib.Omega.{arith}
 use Prim.Native.Nat.{_+_, _*_, _-_, _≤_}
@@ -7,14 +7,15 @@ use denote.Ref.{now}
 use lib.ListN.{length, take, length-set}
 use lib.Seq.{take-all}
 use Rattle.line.specs.Digits.{digitsOf}
-use Rattle.console.specs.Buffer.{over}
-use Rattle.console.proofs.BufferLaws.{over-none, over-set, digits-more, digits-length, line-length}
+use Rattle.console.specs.Buffer.{withText}
+use Rattle.console.proofs.BufferLaws.{withText-none, withText-set, digits-more, digits-length, line-length}
 use Rattle.console.proofs.text.put_line.Statement.{statement}
 use Rattle.console.proofs.text.put_line.Tie as tie
 
 abbrev Inv-loop : tie.InvT-loop
 Inv-loop bytes buffer₀ at to₀ i₀ buffer to i =
-    (i ≤ length bytes) × (to ≡ at + 2 * i) × (at + 2 * length bytes + 1 ≤ length buffer₀) × (length buffer ≡ length buffer₀) × (buffer ≡ over buffer₀ at (digitsOf (take i bytes)))
+    (i ≤ length bytes) × (to ≡ at + 2 * i) × (at + 2 * length bytes + 1 ≤ length buffer₀)
+    × (length buffer ≡ length buffer₀) × (buffer ≡ withText buffer₀ at (digitsOf (take i bytes)))
 
 abbrev μ-loop : tie.MeasureT-loop
 μ-loop bytes buffer₀ at to₀ i₀ buffer to i = length bytes - i
@@ -23,7 +24,7 @@ loop-holds : tie.Need-loop-holds Inv-loop μ-loop
 unfolding digitsOf
 loop-holds c =
     let start = c .before .before .args in
-    (omega arith, omega arith, omega (arith, c .before .before .pre, line-length (now (start .bytes))), refl, sym (over-none (now (start .buffer)) (start .at)))
+    (omega arith, omega arith, omega (arith, c .before .before .pre, line-length (now (start .bytes))), refl, sym (withText-none (now (start .buffer)) (start .at)))
 
 shared-slice-read-byte : tie.Need-shared-slice-read-byte Inv-loop μ-loop
 shared-slice-read-byte c = search needs
@@ -83,7 +84,7 @@ returns c =
     let long : length digits ≡ 2 * at .i = digits-length (now (start .bytes)) (at .i) (omega arith) in
     let here : at .to ≡ start .at + length digits = omega arith in
     let whole : digits ≡ digitsOf (now (start .bytes)) = ap digitsOf (take-all (at .i) (now (start .bytes)) (omega arith)) in
-    (omega (arith, line-length (now (start .bytes))), rw (at .inv .4, here, over-set (now (start .buffer)) (start .at) digits 10 (omega arith), whole))
+    (omega (arith, line-length (now (start .bytes))), rw (at .inv .4, here, withText-set (now (start .buffer)) (start .at) digits 10 (omega arith), whole))
 
 pub put-line-spec : {M : Type 1} → statement M
 put-line-spec =

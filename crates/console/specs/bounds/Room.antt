@@ -21,5 +21,5 @@ abbrev pub STATUS : ℕ
 STATUS = STAGE + RUNS
 
 -- the unended line's answer, and the status
-abbrev pub LAST : ℕ
-LAST = ANSWER + STATUS
+abbrev pub FINAL : ℕ
+FINAL = ANSWER + STATUS
