@@ -39,19 +39,25 @@ fn read(program: &str, list: &str) -> Result<History, String> {
     history(&list, &answers, &mut |count| Ok(ask(program, &list[..count])?.status))
 }
 
-fn file_name(path: &str) -> String {
-    Path::new(path).file_name().unwrap_or_default().to_string_lossy().into_owned()
+/// What the caption calls a list: its file, or the folder of one that is only called `stdin`.
+fn list_name(path: &str) -> String {
+    let path = Path::new(path);
+    let name = match path.parent() {
+        Some(folder) if path.ends_with("stdin") => folder.file_name(),
+        _ => path.file_name(),
+    };
+    name.unwrap_or_default().to_string_lossy().into_owned()
 }
 
 fn show(words: &[&str]) -> Result<(), String> {
     match words {
         ["--text", program, name, list] => {
-            let page = text::page(&file_name(list), name, &read(program, list)?);
+            let page = text::page(&list_name(list), name, &read(program, list)?);
             let written = io::stdout().write_all(page.as_bytes());
             written.map_err(|error| error.to_string())
         }
         [program, name, list, out] => {
-            let picture = svg::picture(&file_name(list), name, &read(program, list)?);
+            let picture = svg::picture(&list_name(list), name, &read(program, list)?);
             let picture = picture.map_err(|error| error.to_string())?;
             fs::write(out, picture).map_err(|error| format!("{out}: {error}"))?;
             println!("wrote {out}");

@@ -174,7 +174,7 @@ pub mod tests {
 
     #[test]
     fn january_opens_a_stretch() {
-        let history = of_case(include_bytes!("../../cases/january.stdin"));
+        let history = of_case(include_bytes!("../../../crates/case_january/stdin"));
         let years: Vec<u16> = history.admissions[0].stretches.iter().map(Stretch::year).collect();
         assert_eq!(years, [2012, 2013]);
         assert_eq!(history.admissions[0].stretches[1].run(0).map(|run| run.first), Some(1));

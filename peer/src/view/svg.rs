@@ -240,7 +240,7 @@ mod tests {
     /// The legend has one filled marker of its own.
     #[test]
     fn the_samples_of_the_run_are_marked() {
-        let picture = of("run-and-tie", include_bytes!("../../cases/run-and-tie.stdin"));
+        let picture = of("run-and-tie", include_bytes!("../../../crates/case_run_and_tie/stdin"));
         assert_eq!(picture.matches(r#"class="full""#).count(), 1 + 3);
         let (_, run) = picture.split_once(r#"<polyline class="run" points=""#).unwrap();
         let (points, _) = run.split_once('"').unwrap();
@@ -250,7 +250,7 @@ mod tests {
 
     #[test]
     fn nothing_lies_off_the_page() {
-        let picture = of("stretch-full", include_bytes!("../../cases/stretch-full.stdin"));
+        let picture = of("stretch-full", include_bytes!("../../../crates/case_stretch_full/stdin"));
         for attribute in ["x", "x1", "x2", "cx"] {
             for after in picture.split(&format!(r#" {attribute}=""#)).skip(1) {
                 let x: f64 = after.split('"').next().unwrap().parse().unwrap();

@@ -1,4 +1,4 @@
-//! The rows of `lines.stdin`: each with what it shows and what must come of it.
+//! The rows of `lines`: each with what it shows and what must come of it.
 
 use peer::draft::halves;
 use peer::line::{Fields, FAT, MOISTURE, PROTEIN, SALT};

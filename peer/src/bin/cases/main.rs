@@ -1,8 +1,10 @@
-//! Writes the lists under `cases` with their outputs and their README, after holding each against
-//! what it must show. With `--check` it compares the files instead of writing them.
+//! Writes the lists with their outputs, each where it stands, and the README of `cases`, after
+//! holding each against what it must show. With `--check` it compares the files instead of writing
+//! them.
 
 mod lines;
 mod list;
+mod place;
 mod plain;
 mod standard;
 mod stories;
@@ -18,14 +20,17 @@ use peer::single::standardize;
 use peer::unit::Unit;
 
 use list::Case;
+use place::paths;
 
+/// A file, by its path from the repository's root.
 struct File {
-    name: String,
+    path: String,
     bytes: Vec<u8>,
 }
 
-fn file(name: &str, bytes: impl Into<Vec<u8>>) -> File {
-    File { name: name.to_string(), bytes: bytes.into() }
+fn list_files(name: &str, input: Vec<u8>, output: Vec<u8>) -> [File; 2] {
+    let [list, answers] = paths(name);
+    [File { path: list, bytes: input }, File { path: answers, bytes: output }]
 }
 
 fn program_files(case: &Case) -> [File; 2] {
@@ -34,7 +39,7 @@ fn program_files(case: &Case) -> [File; 2] {
     let mut fast = Vec::new();
     stream(&mut &input[..], &mut fast).expect("memory takes all");
     assert_eq!(String::from_utf8(fast).as_ref(), Ok(output), "{name}, in one pass");
-    [file(&format!("{name}.stdin"), input.clone()), file(&format!("{name}.stdout"), output.clone())]
+    list_files(name, input.clone(), output.clone().into())
 }
 
 /// The program shows no chart that is not over, so this one is held against the charts.
@@ -67,7 +72,7 @@ fn lines_files(rows: &[lines::Row]) -> [File; 2] {
         output.push(b'\n');
         assert_eq!(number, row.refusal, "{}", row.shows);
     }
-    [file("lines.stdin", input), file("lines.stdout", output)]
+    list_files("lines", input, output)
 }
 
 fn standard_files(rows: &[standard::Row]) -> [File; 2] {
@@ -78,14 +83,15 @@ fn standard_files(rows: &[standard::Row]) -> [File; 2] {
         input += &format!("{}\n", row.text);
         output += &format!("{answer}\n");
     }
-    [file("standard.stdin", input), file("standard.stdout", output)]
+    list_files("standard", input.into(), output.into())
 }
 
 fn readme(cases: &[Case], lines: &[lines::Row], standard: &[standard::Row]) -> String {
     let mut text = String::from(README_START);
     for Case { name, shows, output, .. } in cases {
         let status = output.lines().find(|line| line.len() == 12).unwrap_or_default();
-        let _ = writeln!(text, "| {name} | {status} | {shows} |");
+        let [list, _] = paths(name);
+        let _ = writeln!(text, "| {name} | `{list}` | {status} | {shows} |");
     }
     text += README_LINES;
     for (number, row) in (1..).zip(lines) {
@@ -106,21 +112,23 @@ fn readme(cases: &[Case], lines: &[lines::Row], standard: &[standard::Row]) -> S
 const README_START: &str = "\
 # Lists and their outputs
 
-`NAME.stdin` goes in, `NAME.stdout` must come out. `cargo run --release --offline --bin cases`
-in `peer` writes all files here, this one too; each output is worked out by hand beside its list
-in `src/bin/cases` and held against both modes of the peer. With `-- --check` it compares the
-files instead of writing them.
+A list, `stdin`, goes in, and `stdout` beside it must come out. A list that a crate runs stands
+with that crate and nowhere else; here are those that none runs. `cargo run --release --offline
+--bin cases` in `peer` writes all of them, and this file; each output is worked out by hand beside
+its list in `src/bin/cases` and held against both modes of the peer, but for the rows of
+`standard` for which no short sum does: those are the peer's exact integers alone. With
+`-- --check` it compares the files instead of writing them.
 
 ## For the program
 
-| list | status line | what it shows |
-|---|---|---|
+| list | file | status line | what it shows |
+|---|---|---|---|
 ";
 
 const README_LINES: &str = "
 ## lines: reading alone
 
-For each line the number of its refusal, 01 to 07, or the line written back.
+In `crates/case_line`. For each line the number of its refusal, 01 to 07, or the line written back.
 
 | line | outcome | what it shows |
 |---|---|---|
@@ -129,9 +137,9 @@ For each line the number of its refusal, 01 to 07, or the line written back.
 const README_STANDARD: &str = "
 ## standard: standardizing alone
 
-A row is 12 digits: product 1 byte, analyte 1, mean 2, reading in hundredths 2. Answered are the
-value s, d and the contributions P, N, V, D, or the refusal. No row has an analyte above 3, for
-which document 01 has no word.
+In `crates/case_standard`. A row is 12 digits: product 1 byte, analyte 1, mean 2, reading in
+hundredths 2. Answered are the value s, d and the contributions P, N, V, D, or the refusal. No row
+has an analyte above 3, for which document 01 has no word.
 
 | row | digits | s d P N V D | what it shows |
 |---|---|---|---|
@@ -146,16 +154,17 @@ fn main() -> io::Result<()> {
     }
     files.extend(lines_files(&lines));
     files.extend(standard_files(&standard));
-    files.push(file("README.md", readme(&cases, &lines, &standard)));
+    let readme = readme(&cases, &lines, &standard).into();
+    files.push(File { path: "peer/cases/README.md".to_string(), bytes: readme });
 
-    let folder = Path::new(env!("CARGO_MANIFEST_DIR")).join("cases");
+    let root = Path::new(env!("CARGO_MANIFEST_DIR")).join("..");
     let check = std::env::args().nth(1).as_deref() == Some("--check");
-    for File { name, bytes } in &files {
-        let path = folder.join(name);
+    for File { path, bytes } in &files {
+        let at = root.join(path);
         if check {
-            assert!(fs::read(&path)? == *bytes, "{name} is not what it should be");
+            assert!(fs::read(&at)? == *bytes, "{path} is not what it should be");
         } else {
-            fs::write(&path, bytes)?;
+            fs::write(&at, bytes)?;
         }
     }
     println!("{} files {}", files.len(), if check { "as they should be" } else { "written" });

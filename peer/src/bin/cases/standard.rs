@@ -1,4 +1,4 @@
-//! The rows of `standard.stdin`: each with what it shows.
+//! The rows of `standard`: each with what it shows.
 
 use peer::line::{FAT, MOISTURE, PROTEIN, SALT};
 
