@@ -1,18 +1,17 @@
 -- The misses' part of the claim. A state keeps the month of the last miss, 0 before the first, and whether two misses were near. No earlier miss
 -- is later than the last, so the last one is the nearest to the next.
-use mathlib.Core.Path.{_≡_, sym, _∙_, subst}
+use mathlib.Core.Path.{_≡_, sym, subst}
 use mathlib.Core.Bool.{Bool, true, false}
 use mathlib.Core.List.{List, [], _∷_, _++_}
 use mathlib.Core.Logic.{_↔_, ⊎-elim}
-use Prim.Native.Nat.{ℕ, suc, _≤_, _<_}
+use Prim.Native.Nat.{ℕ, _≤_, _<_}
 use native.Mathlib.Omega.{arith}
 use native.Mathlib.Nat.{eq-or-lt-of-le}
-use native.Mathlib.Numerals.{add-one}
 use lib.Dec.{T}
-use lib.ListN.{length, getD, length-append, List·getD-append}
-use lib.Seq.{getD-append-seam}
+use lib.ListN.{length, getD}
 use lib.IntN.{ℤ}
 use borrow.Author.Tests.{leb-true, le-leb}
+use Rattle.laws.proofs.Lists.{length-more, last-more, before-more, AtMost, at-most-more}
 use Rattle.grounds.specs.Entry.{Entry, missed, sample, misses}
 use Rattle.grounds.specs.Earlier.{again}
 use Rattle.grounds.specs.Miss.{window, TwoNear}
@@ -20,7 +19,7 @@ use Rattle.grounds.proofs.Entry.{misses-missed, misses-sample}
 
 -- the state is that of the months of the misses
 pub record Missed (months : List ℕ) (last : ℕ) (two : Bool) : Type 0 where
-  pub latest : (i : ℕ) → i < length months → getD months i 0 ≤ last
+  pub latest : AtMost months last
   pub there : 0 < last → (i : ℕ) × (i < length months) × (getD months i 0 ≡ last)
   pub named : two ≡ true ↔ TwoNear months
 
@@ -36,21 +35,6 @@ missed-none = record {
 
 -- one more miss, no earlier than the last, where no two were near before
 module _ (ms : List ℕ) (last m : ℕ) (old : Missed ms last false) (order : last ≤ m) (real : window < m) where
-  long : length (ms ++ m ∷ []) ≡ suc (length ms)
-  long = length-append ms (m ∷ []) ∙ add-one (length ms)
-
-  at-end : getD (ms ++ m ∷ []) (length ms) 0 ≡ m
-  at-end = getD-append-seam ms m [] 0
-
-  before : (i : ℕ) → i < length ms → getD (ms ++ m ∷ []) i 0 ≡ getD ms i 0
-  before i h = List·getD-append ms (m ∷ []) 0 i h
-
-  latest : (i : ℕ) → i < length (ms ++ m ∷ []) → getD (ms ++ m ∷ []) i 0 ≤ m
-  latest i h = ⊎-elim
-      (λ (e : i ≡ length ms). omega (arith, rw (← e) at at-end))
-      (λ (k : i < length ms). omega (arith, before i k, old .latest i k))
-      (eq-or-lt-of-le (omega (arith, long)))
-
   to-two : again last m ≡ true → TwoNear (ms ++ m ∷ [])
   to-two e =
       let p = old .there (omega (arith, leb-true)) in
@@ -58,15 +42,15 @@ module _ (ms : List ℕ) (last m : ℕ) (old : Missed ms last false) (order : la
         one = p .0;
         other = length ms;
         different = omega (arith, p .1);
-        within = omega (arith, long);
-        near = rw (before (p .0) (p .1), at-end) (omega (arith, leb-true));
+        within = omega (arith, length-more ms m);
+        near = rw (before-more ms m (p .0) (p .1), last-more ms m) (omega (arith, leb-true));
       }
 
   from-two : TwoNear (ms ++ m ∷ []) → again last m ≡ true
   from-two t = ⊎-elim
       (λ (e : t .other ≡ length ms).
       let h : t .one < length ms = omega (arith, t .different) in
-      omega (arith, le-leb, rw (e, at-end, before (t .one) h) at (t .near), old .latest (t .one) h))
+      omega (arith, le-leb, rw (e, last-more ms m, before-more ms m (t .one) h) at (t .near), old .latest (t .one) h))
       (λ (k : t .other < length ms).
       let h : t .one < length ms = omega (arith, t .different) in
       not-true (old .named .1 (record {
@@ -74,14 +58,14 @@ module _ (ms : List ℕ) (last m : ℕ) (old : Missed ms last false) (order : la
         other = t .other;
         different = t .different;
         within = k;
-        near = rw (before (t .one) h, before (t .other) k) at (t .near);
+        near = rw (before-more ms m (t .one) h, before-more ms m (t .other) k) at (t .near);
       })))
-      (eq-or-lt-of-le (omega (arith, long, t .within)))
+      (eq-or-lt-of-le (omega (arith, length-more ms m, t .within)))
 
   missed-more : Missed (ms ++ m ∷ []) m (again last m)
   missed-more = record {
-    latest = latest;
-    there = λ h. (length ms, omega (arith, long), at-end);
+    latest = at-most-more ms last m (old .latest) order;
+    there = λ h. (length ms, omega (arith, length-more ms m), last-more ms m);
     named = (to-two, from-two);
   }
 

@@ -1,6 +1,13 @@
 -- Lists grown at their end. Assumes nothing.
+use Prim.Native.Nat.{ℕ, suc, _≤_, _<_}
+use mathlib.Core.Path.{_≡_, _∙_}
 use mathlib.Core.List.{List, [], _∷_, _++_, append-nil}
-use lib.Seq.{append-snoc}
+use mathlib.Core.Logic.{⊎-elim}
+use native.Mathlib.Nat.{eq-or-lt-of-le}
+use native.Mathlib.Numerals.{add-one}
+use native.Mathlib.Omega.{arith}
+use lib.ListN.{length, getD, length-append, List·getD-append}
+use lib.Seq.{append-snoc, getD-append-seam}
 
 -- what holds of the empty list and is kept by one more element holds of every list
 module _ {A : Type 0} (P : List A → Type 0) (step : (xs : List A) (x : A) → P xs → P (xs ++ x ∷ [])) where
@@ -10,3 +17,24 @@ module _ {A : Type 0} (P : List A → Type 0) (step : (xs : List A) (x : A) → 
 
   pub by-growth : P [] → (xs : List A) → P xs
   by-growth p xs = grown [] xs p
+
+-- a list of numbers with one more
+module _ (ns : List ℕ) (n : ℕ) where
+  pub length-more : length (ns ++ n ∷ []) ≡ suc (length ns)
+  length-more = length-append ns (n ∷ []) ∙ add-one (length ns)
+
+  pub last-more : getD (ns ++ n ∷ []) (length ns) 0 ≡ n
+  last-more = getD-append-seam ns n [] 0
+
+  pub before-more : (i : ℕ) → i < length ns → getD (ns ++ n ∷ []) i 0 ≡ getD ns i 0
+  before-more i h = List·getD-append ns (n ∷ []) 0 i h
+
+-- each number is at most `most`
+abbrev pub AtMost : List ℕ → ℕ → Type 0
+AtMost ns most = (i : ℕ) → i < length ns → getD ns i 0 ≤ most
+
+pub at-most-more : (ns : List ℕ) (most n : ℕ) → AtMost ns most → most ≤ n → AtMost (ns ++ n ∷ []) n
+at-most-more ns most n old h i l = ⊎-elim
+    (λ (e : i ≡ length ns). omega (arith, rw (← e) at (last-more ns n)))
+    (λ (k : i < length ns). omega (arith, before-more ns n i k, old i k))
+    (eq-or-lt-of-le (omega (arith, length-more ns n)))
