@@ -1,5 +1,6 @@
--- The claim is not empty: it is applied to three lists of real lines, computed. On `byRun` a run opens probation, on `byMisses` two misses do, and
--- on `calm` nothing does. Each list starts with a study set that passes.
+-- What the promises speak of is there, computed on real lines: a line is refused and one is taken, a record is written and one refused, and the claim is
+-- applied to three lists. On `byRun` a run opens probation, on `byMisses` two misses do, and on `calm` nothing does. Each list starts with a study set
+-- that passes.
 use Prim.Native.Nat.{ℕ, _<_}
 use mathlib.Core.Path.{_≡_, refl, sym}
 use mathlib.Core.Bool.{Bool, true, false, true≢false}
@@ -11,7 +12,7 @@ use lib.IntN.{pos, negℤ}
 use lib.ListN.{replicate}
 use Rattle.grounds.specs.Chart.{nextValue, nextFirst}
 use Rattle.grounds.specs.Claim.{TwoMisses, SomeRun, RightRun}
-use Rattle.grounds.specs.Entry.{Entry, misses, stretch, onChart}
+use Rattle.grounds.specs.Entry.{Entry, misses, stretch, onChart, years}
 use Rattle.line.specs.Digits.{isDigit, digitValue, digitOf, areDigits, bytesOf, digitsOf}
 use Rattle.line.specs.Fields.{PERCENT, LOST, bytesIn, readingOf, taggedOf, recordOf}
 use Rattle.line.specs.Percent.{accepted, hundredthsOf, amountOf}
@@ -143,6 +144,7 @@ pub record Witness : Type 0 where
   -- Probation is opened, and misses alone are named: January does not clear them, and the stretch is new.
   pub misses-opened : opened byMisses ≡ true
   pub misses-status : Status byMisses 3 1 0 true
+  pub misses-years : years (entries byMisses) ≡ 2012 ∷ 2013 ∷ []
   pub misses-months : misses (entries byMisses) ≡ 24155 ∷ 24158 ∷ []
   -- so, by the claim, two of them are near
   pub misses-near : TwoMisses (entries byMisses)
@@ -172,6 +174,7 @@ witness = record {
   run-right = claim-of byRun .runs 0 (lit< tt) refl;
   misses-opened = refl;
   misses-status = record { stage-is = refl; samples-are = refl; mask-is = refl; misses-are = refl };
+  misses-years = refl;
   misses-months = refl;
   misses-near = claim-of byMisses .misses .0 refl;
   calm-opened = refl;

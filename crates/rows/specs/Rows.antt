@@ -55,11 +55,12 @@ pub data Given : Type 0 where
   no-row : Given
   a-row : (number : ℕ) → Given
 
+-- by the number that `firstRow` gives, 0 for none
 abbrev pub givenBy : ℕ → Given
 givenBy zero = no-row
 givenBy (suc n) = a-row (suc n)
 
--- what that says of the rows: none fits; or that row is the first that does
+-- what an answer says of the rows: where it gives none, that none fits; where it gives a row, that it is the first that does
 abbrev pub Answers : List Row → Given → Type 0
 Answers rows no-row = anyFits rows ≡ false
 Answers rows (a-row n) = First rows n

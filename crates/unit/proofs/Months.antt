@@ -15,7 +15,7 @@ use Rattle.unit.specs.Claim.{historyFrom, isAccepted}
 use Rattle.unit.specs.Reached.{after}
 use Rattle.unit.specs.Sample.{monthOf, missed, differencesOf, contributedBy}
 use Rattle.unit.specs.Set.{enteredOf, passesSet}
-use Rattle.unit.specs.Since.{monthIn, lastMonth, MonthIs}
+use Rattle.unit.specs.Months.{monthIn, lastMonth, MonthIs}
 use Rattle.unit.specs.Stretch.{sampledOf, anyOver}
 use Rattle.unit.specs.Study.{SET}
 use Rattle.unit.specs.Take.{newUnit, unitRows, missedBy, sampleBy, judgedBy, studyBy, acceptedBy, takenByRow, takenRecord, takenRead, takenOf}

@@ -66,11 +66,11 @@ pub record Open (u : U.Unit) (r : Record) : Type 0 where
 pub is-open : (u : U.Unit) (r : Record) → firstRow (unitRows u r) ≡ 0 → Open u r
 unfolding firstRow
 is-open u r e =
-    let a = passed 7 _ _ e in
-    let b = passed 8 _ _ (a .1) in
-    let c = passed 9 _ _ (b .1) in
-    let d = passed 10 _ _ (c .1) in
-    let f = passed 11 _ _ (d .1) in
+    let a = passed _ _ _ e in
+    let b = passed _ _ _ (a .1) in
+    let c = passed _ _ _ (b .1) in
+    let d = passed _ _ _ (c .1) in
+    let f = passed _ _ _ (d .1) in
     record { closed = a .0; stage = b .0; backdated = c .0; gap = d .0; full = f .0 }
 
 -- a sample finds room in its stretch

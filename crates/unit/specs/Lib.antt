@@ -14,4 +14,5 @@ pub mod Status
 pub mod Reached
 pub mod Claim
 pub mod Since
+pub mod Months
 pub mod bounds

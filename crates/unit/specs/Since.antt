@@ -1,16 +1,11 @@
--- What is read off a history, as laws that are proved.
+-- What the claim reads off a history, as laws that are proved.
 use Prim.Native.Nat.{ℕ}
 use mathlib.Core.Path.{_≡_}
-use mathlib.Core.Bool.{Bool, true, false, cond, _||_}
+use mathlib.Core.Bool.{Bool, true, false, _||_}
 use mathlib.Core.Logic.{_⊎_}
 use mathlib.Core.List.{List, [], _∷_, _++_}
 use Rattle.grounds.specs.Entry.{years, NeverFall}
-use Rattle.line.specs.Read.{readOf}
-use Rattle.line.specs.declared.record.Read.{Read}
-use Rattle.line.specs.declared.record.Read.the-variants.{Whole, Refused as Unread}
-use Rattle.unit.specs.Claim.{Step, history, isAdmission, isAccepted, since, entriesOf}
-use Rattle.unit.specs.Reached.{replay}
-use Rattle.unit.specs.Sample.{monthOf}
+use Rattle.unit.specs.Claim.{Step, history, isAdmission, since, entriesOf}
 
 abbrev pub admits : List Step → Bool
 admits [] = false
@@ -38,17 +33,3 @@ SinceIs h = Since h (since h)
 -- samples of one calendar year. Proved as `years-never-fall` of proofs/Claimed.
 abbrev pub YearsNeverFall : Type 0
 YearsNeverFall = (ls : List (List ℕ)) → NeverFall (years (entriesOf (since (history ls))))
-
--- the month number of a line that reads
-abbrev pub monthIn : Read → ℕ
-monthIn (Whole r) = monthOf r
-monthIn (Unread n) = 0
-
--- the last accepted line's month number; m where there is none
-abbrev pub lastMonth : ℕ → List Step → ℕ
-lastMonth m [] = m
-lastMonth m (x ∷ h) = lastMonth (cond (isAccepted (x .event)) (monthIn (readOf (x .line))) m) h
-
--- What row 10 goes by is the last accepted line's month, before and after admission. Proved as `month-is` of proofs/Months.
-abbrev pub MonthIs : Type 0
-MonthIs = (ls : List (List ℕ)) → replay ls .month ≡ lastMonth 0 (history ls)
