@@ -30,7 +30,8 @@ lastLine (x ∷ xs) = (x ∷ xs) ∷ []
 abbrev pub linesOf : List ℕ → List (List ℕ)
 linesOf input = ended input ++ lastLine (rest input)
 
--- What `ended` and `rest` are, as a law that is proved (`split` of proofs/SplitLaws): the input is the ended lines, each with its newline, and the rest; and no newline stands in them.
+-- What `ended` and `rest` are, as a law that is proved (`split` of proofs/SplitLaws): the input is the ended lines, each with its newline, and the
+-- rest; and no newline stands in them.
 abbrev pub unlines : List (List ℕ) → List ℕ
 unlines [] = []
 unlines (l ∷ ls) = l ++ NEWLINE ∷ unlines ls

@@ -21,40 +21,45 @@ use Rattle.unit.specs.Stretch.{sampledOf, anyOver}
 use Rattle.unit.specs.Study.{SET}
 use Rattle.unit.specs.Take.{unitRows, missedBy, sampleBy, judgedBy, studyBy, acceptedBy, takenByRow, takenRecord, takenRead, takenOf, takeRows}
 use Rattle.unit.specs.declared.Unit as U
-use Rattle.unit.specs.declared.event.Event.{Event}
+use Rattle.unit.specs.declared.Taken.{Taken}
 use Rattle.unit.specs.declared.set.Set.{Set}
 use Rattle.unit.specs.declared.stretch.Stretch.{Stretch}
 
--- ---- the event of an accepted line is not 00
+-- ---- what an accepted line leaves: an event that is not 00, and its month
 
-abbrev pub isRefusal : Event → Bool
-isRefusal e = eqb (eventByte e) 0
+pub record Leaves (month : ℕ) (t : Taken) : Type 0 where
+  pub event : eqb (eventByte (t .event)) 0 ≡ false
+  pub month-is : t .unit .month ≡ month
 
-missed-event : (b : Bool) (u : U.Unit) (m : ℕ) → isRefusal (missedBy b u m .event) ≡ false
-missed-event true u m = refl
-missed-event false u m = refl
+missed-leaves : (b : Bool) (u : U.Unit) (m : ℕ) → Leaves m (missedBy b u m)
+missed-leaves true u m = record { event = refl; month-is = refl }
+missed-leaves false u m = record { event = refl; month-is = refl }
 
-sample-event : (b : Bool) (u : U.Unit) (m : ℕ) (s : Stretch) → isRefusal (sampleBy b u m s .event) ≡ false
-sample-event true u m s = refl
-sample-event false u m s = refl
+sample-leaves : (b : Bool) (u : U.Unit) (m : ℕ) (s : Stretch) → Leaves m (sampleBy b u m s)
+sample-leaves true u m s = record { event = refl; month-is = refl }
+sample-leaves false u m s = record { event = refl; month-is = refl }
 
-judged-event : (b : Bool) (u : U.Unit) (m : ℕ) → isRefusal (judgedBy b u m .event) ≡ false
-judged-event true u m = refl
-judged-event false u m = refl
+judged-leaves : (b : Bool) (u : U.Unit) (m : ℕ) → Leaves m (judgedBy b u m)
+judged-leaves true u m = record { event = refl; month-is = refl }
+judged-leaves false u m = record { event = refl; month-is = refl }
 
-study-event : (b : Bool) (u : U.Unit) (m : ℕ) (s : Set) → isRefusal (studyBy b u m s .event) ≡ false
-study-event true u m s = judged-event (passesSet s) u m
-study-event false u m s = refl
+study-leaves : (b : Bool) (u : U.Unit) (m : ℕ) (s : Set) → Leaves m (studyBy b u m s)
+study-leaves true u m s = judged-leaves (passesSet s) u m
+study-leaves false u m s = record { event = refl; month-is = refl }
 
-pub accepted-event : (a b : Bool) (u : U.Unit) (r : Record) → isRefusal (acceptedBy a b u r .event) ≡ false
-accepted-event true b u r = let s = enteredOf (u .set) (differencesOf r) in study-event (eqb (s .lines) SET) u (monthOf r) s
-accepted-event false true u r = missed-event (again (u .misses .last) (monthOf r)) u (monthOf r)
-accepted-event false false u r = let s = sampledOf (u .stretch) (r .year) (contributedBy r) in sample-event (anyOver s) u (monthOf r) s
+accepted-leaves : (a b : Bool) (u : U.Unit) (r : Record) → Leaves (monthOf r) (acceptedBy a b u r)
+accepted-leaves true b u r = let s = enteredOf (u .set) (differencesOf r) in study-leaves (eqb (s .lines) SET) u (monthOf r) s
+accepted-leaves false true u r = missed-leaves (again (u .misses .last) (monthOf r)) u (monthOf r)
+accepted-leaves false false u r = let s = sampledOf (u .stretch) (r .year) (contributedBy r) in sample-leaves (anyOver s) u (monthOf r) s
+
+-- where none of rows 8 to 12 fits
+pub leaves : (u : U.Unit) (r : Record) → Leaves (monthOf r) (takenByRow 0 u r)
+leaves u r = accepted-leaves (eqb (r .kind) STUDY) (missed r) u r
 
 -- ---- a refusal changes nothing
 
 keeps-by-row : (n : ℕ) (u : U.Unit) (r : Record) → eventByte (takenByRow n u r .event) ≡ 0 → takenByRow n u r .unit ≡ u
-keeps-by-row zero u r e = absurd (true≢false (sym (eq-eqb _ 0 e) ∙ accepted-event (eqb (r .kind) STUDY) (missed r) u r))
+keeps-by-row zero u r e = absurd (true≢false (sym (eq-eqb _ 0 e) ∙ leaves u r .event))
 keeps-by-row (suc n) u r e = refl
 
 pub refusal-keeps : (u : U.Unit) (line : List ℕ) → eventByte (takenOf u line .event) ≡ 0 → takenOf u line .unit ≡ u
@@ -68,7 +73,7 @@ refusal-keeps u line = go (readOf line)
 -- ---- its number is the first row's
 
 row-by : (n : ℕ) (u : U.Unit) (r : Record) → eventRow (takenByRow n u r .event) ≡ givenBy n
-row-by zero u r = ap (λ (b : Bool). cond b (a-row (numberByte (takenByRow 0 u r .event))) no-row) (accepted-event (eqb (r .kind) STUDY) (missed r) u r)
+row-by zero u r = ap (λ (b : Bool). cond b (a-row (numberByte (takenByRow 0 u r .event))) no-row) (leaves u r .event)
 row-by (suc n) u r = refl
 
 module _ (u : U.Unit) (line : List ℕ) where
