@@ -1,4 +1,4 @@
 // Bytes 00 and ff, carriage returns and other garbage.
 fn main() {
-    terminal::run();
+    terminal::run(unit::new_unit());
 }

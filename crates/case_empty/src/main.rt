@@ -1,4 +1,4 @@
 // An empty input: the status alone.
 fn main() {
-    terminal::run();
+    terminal::run(unit::new_unit());
 }

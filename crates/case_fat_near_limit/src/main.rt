@@ -1,4 +1,4 @@
 // A year that ends accredited close to the fat limit: chart 8 at its limit in November is not over.
 fn main() {
-    terminal::run();
+    terminal::run(unit::new_unit());
 }

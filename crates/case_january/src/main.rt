@@ -1,4 +1,4 @@
 // A chart is not carried into January.
 fn main() {
-    terminal::run();
+    terminal::run(unit::new_unit());
 }

@@ -1,4 +1,4 @@
 // Lines of 67, 68, 69 and 100,000 bytes.
 fn main() {
-    terminal::run();
+    terminal::run(unit::new_unit());
 }

@@ -4,7 +4,7 @@ use mathlib.Core.Path.{_≡_, refl, sym, ap, ap₂, _∙_}
 use mathlib.Core.List.{List, [], _∷_, _++_}
 use native.Mathlib.Omega.{arith}
 use lib.ListN.{length, take, set}
-use Rattle.line.specs.Digits.{digitsOf, highDigit, lowDigit}
+use Rattle.digits.specs.Digits.{digitsOf, highDigit, lowDigit}
 use Rattle.line.specs.Read.{readOf}
 use Rattle.line.specs.Write.{bufferAfter}
 use Rattle.line.specs.declared.record.Record.{Record}

@@ -1,7 +1,7 @@
 -- What is printed for a line, ended by a newline: the number of its refusal as two digits, or the line of the record that was read.
 use Prim.Native.Nat.{ℕ}
 use mathlib.Core.List.{List, [], _∷_, _++_}
-use Rattle.line.specs.Digits.{digitsOf}
+use Rattle.digits.specs.Digits.{digitsOf}
 use Rattle.line.specs.Read.{readOf}
 use Rattle.line.specs.Write.{lineOf}
 use Rattle.line.specs.declared.record.Record.{Record}

@@ -20,8 +20,8 @@ fn put_refusal(number: u8, out: &mut [u8]) -> usize
     ensures room { λ r. ⌜ r ≤ ANSWER ⌝ }
     ensures put { λ r. ⌜ take r (now (out .exit)) ≡ refusal number ⌝ }
 {
-    out[0] = line::high_digit(number);
-    out[1] = line::low_digit(number);
+    out[0] = digits::high_digit(number);
+    out[1] = digits::low_digit(number);
     out[2] = NEWLINE;
     3
 }

@@ -1,4 +1,4 @@
 // Probation by misses in two calendar years.
 fn main() {
-    terminal::run();
+    terminal::run(unit::new_unit());
 }

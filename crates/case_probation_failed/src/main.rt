@@ -1,4 +1,4 @@
 // A set failed on probation closes the unit, and the grounds are still shown.
 fn main() {
-    terminal::run();
+    terminal::run(unit::new_unit());
 }

@@ -1,4 +1,4 @@
 // Each refusal from 1 to 12 once, with an accepted line after it showing that nothing moved.
 fn main() {
-    terminal::run();
+    terminal::run(unit::new_unit());
 }

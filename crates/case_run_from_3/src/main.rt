@@ -1,4 +1,4 @@
 // Probation by charts with a run from sample 3; one from sample 2 would sum higher and is none.
 fn main() {
-    terminal::run();
+    terminal::run(unit::new_unit());
 }

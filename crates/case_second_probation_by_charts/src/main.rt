@@ -1,4 +1,4 @@
 // Admission after probation by misses clears the grounds, and charts open probation again.
 fn main() {
-    terminal::run();
+    terminal::run(unit::new_unit());
 }

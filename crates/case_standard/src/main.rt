@@ -2,31 +2,27 @@
 // for each the standardizing value, d and the contributions to P, N, V and D, or its refusal:
 // `standardize` run on rows whose answers were worked out independently.
 
+use difference::standardize::Figures;
+use difference::standardize::Standardized;
+use difference::standardize::standardize;
+use digits::Hex;
+use digits::byte_in;
+use digits::two;
 use libc::STDIN_FILENO;
 use libc::STDOUT_FILENO;
-use line::Hex;
-use line::byte_in;
 use line::refusal::DIGIT;
-use unit::standardize::Figures;
-use unit::standardize::Standardized;
-use unit::standardize::standardize;
 ghost use mathlib.Core.Path.{_≡_};
 ghost use Prim.Native.Nat.{_<_};
 ghost use lib.ListN.{length};
-ghost use Rattle.case_standard.specs.Answer.{DIGITS, byteAt, twoOf, answerOf};
+ghost use Rattle.case_standard.specs.Answer.{DIGITS, pairAt, answerOf};
 
 // How many digits a row has. A newline follows them.
 const DIGITS: usize = 12;
 
-fn two(high: u8, low: u8) -> u16
-    ensures { λ r. ⌜ r ≡ twoOf high low ⌝ }
-{
-    high as u16 * 256 + low as u16
-}
-
-fn byte_at(row: &[u8], i: usize) -> Hex
+// The byte that two digits of a row write.
+fn pair_at(row: &[u8], i: usize) -> Hex
     requires { ⌜ (length (now row) ≡ DIGITS) × (i < 6) ⌝ }
-    ensures { λ r. ⌜ r ≡ byteAt (now (row .entry)) i ⌝ }
+    ensures { λ r. ⌜ r ≡ pairAt (now (row .entry)) i ⌝ }
 {
     byte_in(row[2 * i], row[2 * i + 1])
 }
@@ -36,22 +32,22 @@ fn answer(row: &[u8]) -> Standardized
     requires { ⌜ length (now row) ≡ DIGITS ⌝ }
     ensures { λ r. ⌜ r ≡ answerOf (now (row .entry)) ⌝ }
 {
-    let Hex::Value(product) = byte_at(row, 0) else {
+    let Hex::Value(product) = pair_at(row, 0) else {
         return Standardized::Refused(DIGIT);
     };
-    let Hex::Value(analyte) = byte_at(row, 1) else {
+    let Hex::Value(analyte) = pair_at(row, 1) else {
         return Standardized::Refused(DIGIT);
     };
-    let Hex::Value(mean_high) = byte_at(row, 2) else {
+    let Hex::Value(mean_high) = pair_at(row, 2) else {
         return Standardized::Refused(DIGIT);
     };
-    let Hex::Value(mean_low) = byte_at(row, 3) else {
+    let Hex::Value(mean_low) = pair_at(row, 3) else {
         return Standardized::Refused(DIGIT);
     };
-    let Hex::Value(high) = byte_at(row, 4) else {
+    let Hex::Value(high) = pair_at(row, 4) else {
         return Standardized::Refused(DIGIT);
     };
-    let Hex::Value(low) = byte_at(row, 5) else {
+    let Hex::Value(low) = pair_at(row, 5) else {
         return Standardized::Refused(DIGIT);
     };
     standardize(product, analyte, two(mean_high, mean_low), two(high, low))

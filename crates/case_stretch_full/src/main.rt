@@ -1,4 +1,4 @@
 // A stretch of 999 samples, the refusal after it, and a new year.
 fn main() {
-    terminal::run();
+    terminal::run(unit::new_unit());
 }

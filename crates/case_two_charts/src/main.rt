@@ -1,4 +1,4 @@
 // Two charts over at once, on different analytes.
 fn main() {
-    terminal::run();
+    terminal::run(unit::new_unit());
 }

@@ -1,4 +1,4 @@
 // An unended last line counts.
 fn main() {
-    terminal::run();
+    terminal::run(unit::new_unit());
 }

@@ -9,29 +9,25 @@ use native.Mathlib.Numerals.{add-one}
 use native.Mathlib.Omega.{arith}
 use borrow.Author.Tests.{lt-ltb, le-ltb, eq-eqb, ltb-false, leb-false}
 use lib.Dec.{ltb, leb}
-use lib.ListN.{length, take, drop, getD, length-append, drop-of-length-le, take-append-drop}
-use lib.Seq.{take-suc, take-add, drop-cons, drop-drop}
+use lib.ListN.{length, take, drop, getD, length-append, length-drop, drop-of-length-le, take-append-drop}
+use lib.Seq.{take-suc, take-add, take-all, drop-cons, drop-drop, getD-drop}
 use Rattle.laws.proofs.Bools.{either}
 use Rattle.console.specs.declared.Console.{Console}
 use Rattle.console.specs.declared.Fed.{Fed}
-use Rattle.console.specs.Buffer.{withText}
-use Rattle.console.specs.bounds.Room.{ANSWER}
-use Rattle.console.specs.Lines.{hasNewline}
+use Rattle.text.specs.Buffer.{withText}
+use Rattle.text.specs.bounds.Room.{ANSWER}
+use Rattle.console.specs.Lines.{Before}
 use Rattle.console.specs.State.{pending, steppedOf, stepText, consoleAfter, textAfter}
 use Rattle.console.specs.Stands.{Reached}
 use Rattle.console.specs.Feed.{takes, fedOf, fedBuffer, Progress, Continued, FeedKept}
-use Rattle.console.specs.Text.{NEWLINE, answerText}
+use Rattle.text.specs.Text.{NEWLINE, answerText}
 use Rattle.unit.specs.Take.{takenOf}
-use Rattle.unit.specs.Event.{eventByte, numberByte}
-use Rattle.unit.specs.declared.event.Event.{Event}
 use Rattle.unit.specs.declared.Taken.{Taken}
-use Rattle.console.proofs.KeptLaws.{unit-after}
-use Rattle.console.proofs.BufferLaws.{withText-none, withText-append, withText-length, withText-front, withText-behind, line-length}
+use Rattle.text.proofs.BufferLaws.{withText-none, withText-append, withText-length, withText-front, withText-behind}
+use Rattle.text.proofs.PutLaws.{answer-length}
 use Rattle.console.proofs.StandLaws.{step-newline, made-after, stands-after}
 use Rattle.console.proofs.PartLaws.{part-length, console-append, text-append, part-text, part-takes}
-
-pub answer-length : (e : Event) → length (answerText e) ≡ ANSWER
-answer-length e = line-length (eventByte e ∷ numberByte e ∷ [])
+use Rattle.console.proofs.KeptLaws.{unit-after}
 
 -- `taken` bytes are taken, their text is written, and what is still taken depends on the rest of the input and of the room
 pub record Going (c₀ : Console) (input output₀ : List ℕ) (c : Console) (output : List ℕ) (taken written : ℕ) : Type 0 where
@@ -64,6 +60,17 @@ takes-some : (c : Console) (xs : List ℕ) (room : ℕ) → 0 < length xs → AN
 unfolding takes
 takes-some c [] room h k = absurd (omega arith)
 takes-some c (x ∷ xs) room h k = rw (le-ltb room ANSWER k) (omega arith)
+
+-- ---- what follows i bytes of the input: it is all that is left, and its first newline is the input's
+
+pub all-left : (input : List ℕ) (i : ℕ) → take (length input - i) (drop i input) ≡ drop i input
+all-left input i = let size : length (drop i input) ≤ length input - i = omega (arith, length-drop i input) in take-all (length input - i) (drop i input) size
+
+before-within : (input : List ℕ) (i n : ℕ) → i ≤ length input → Before (drop i input) n → i + n ≤ length input
+before-within input i n h b = omega (arith, b .within, length-drop i input)
+
+pub before-newline : (input : List ℕ) (i n : ℕ) → Before (drop i input) n → i + n < length input → getD input (i + n) 0 ≡ NEWLINE
+before-newline input i n b h = sym (getD-drop i input n 0) ∙ b .there (omega (arith, length-drop i input))
 
 -- what is handed back
 abbrev pub Answer : Console → List ℕ → List ℕ → Console → List ℕ → ℕ → ℕ → Type 0
@@ -108,9 +115,10 @@ module _ {c₀ : Console} {input output₀ : List ℕ} where
 
   module _ {c : Console} {output : List ℕ} {i w : ℕ} (g : Going c₀ input output₀ c output i w) (k : ANSWER ≤ length output₀ - w) where
     -- a part of a line is held, as far as there is room
-    pub going-part : (n : ℕ) → i + n ≤ length input → hasNewline (take n (drop i input)) ≡ false
-        → Going c₀ input output₀ (consoleAfter c (take n (drop i input))) output (i + n) w
-    going-part n h clear =
+    pub going-part : (n : ℕ) → Before (drop i input) n → Going c₀ input output₀ (consoleAfter c (take n (drop i input))) output (i + n) w
+    going-part n b =
+        let h : i + n ≤ length input = before-within input i n (g .within) b in
+        let clear = b .clear in
         let part = take n (drop i input) in
         let next : take (i + n) input ≡ take i input ++ part = take-add i n input in
         let state : consoleAfter c part ≡ consoleAfter c₀ (take (i + n) input) =
@@ -153,8 +161,8 @@ module _ {c₀ : Console} {input output₀ : List ℕ} where
   pub going-stands : {c : Console} {output : List ℕ} {i w : ℕ} → Going c₀ input output₀ c output i w
       → Continued c₀ input output (record { console = c; taken = i; written = w })
   going-stands {c} {output} {i} {w} g = record {
-    stands = λ before s. rw (g .state) (stands-after c₀ before (take i input) s .0);
-    text = λ before s. rw (g .text, g .place, withText-front output₀ (textAfter c₀ (take i input))) (stands-after c₀ before (take i input) s .1);
+    stands = λ u before s. rw (g .state) (stands-after c₀ u before (take i input) s .0);
+    text = λ u before s. rw (g .text, g .place, withText-front output₀ (textAfter c₀ (take i input))) (stands-after c₀ u before (take i input) s .1);
   }
 
   pub going-kept : {c : Console} {output : List ℕ} {i w : ℕ} → Going c₀ input output₀ c output i w

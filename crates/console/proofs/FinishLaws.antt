@@ -7,8 +7,8 @@ use native.Mathlib.Omega.{arith}
 use borrow.Author.Tests.{eq-eqb, ne-eqb, lt-ltb, le-ltb}
 use lib.ListN.{length, take, length-append}
 use lib.Seq.{length-take-le}
-use Rattle.line.specs.Digits.{lineLength}
-use Rattle.unit.specs.Take.{newUnit, takenOf}
+use Rattle.line.specs.Fields.{lineLength}
+use Rattle.unit.specs.Take.{takenOf}
 use Rattle.unit.specs.Reached.{after}
 use Rattle.unit.specs.Status.{statusOf}
 use Rattle.unit.specs.declared.Taken.{Taken}
@@ -16,20 +16,21 @@ use Rattle.unit.specs.declared.Unit as U
 use Rattle.unit.specs.declared.report.Report.{Report}
 use Rattle.unit.proofs.Reach.{after-append}
 use Rattle.console.specs.declared.Console.{Console}
-use Rattle.console.specs.Text.{NEWLINE, answerText, statusText}
+use Rattle.text.specs.Text.{NEWLINE, answerText, statusText}
 use Rattle.console.specs.Lines.{ended, rest, lastLine, linesOf}
 use Rattle.console.specs.Transcript.{answers, textOf, transcript}
-use Rattle.console.specs.Buffer.{withText, SameFrom}
-use Rattle.console.specs.bounds.Room.{ANSWER, FINAL, STATUS}
+use Rattle.text.specs.Buffer.{withText, SameFrom}
+use Rattle.text.specs.bounds.Room.{ANSWER, STATUS}
+use Rattle.console.specs.bounds.Room.{FINAL}
 use Rattle.console.specs.State.{HELD, pending}
 use Rattle.console.specs.Stands.{Stands}
 use Rattle.console.specs.Feed.{takes, fedOf, fedBuffer}
 use Rattle.console.specs.Finish.{nothingHeld, lastUnit, lastText, finalText, finishedOf, finishedBuffer, Completes, FinishKept}
-use Rattle.console.proofs.BufferLaws.{withText-length, withText-append, withText-front, withText-behind}
+use Rattle.text.proofs.BufferLaws.{withText-length, withText-append, withText-front, withText-behind}
 use Rattle.console.proofs.LineLaws.{answers-append, taken-cut}
 use Rattle.console.proofs.StandLaws.{step-newline}
-use Rattle.console.proofs.FeedLaws.{answer-length}
-use Rattle.console.proofs.StatusLaws.{status-length}
+use Rattle.text.proofs.PutLaws.{answer-length}
+use Rattle.text.proofs.StatusLaws.{status-length}
 
 module _ (c : Console) where
   pub last-none : nothingHeld c ≡ true → (lastUnit c ≡ c .unit) × (lastText c ≡ [])
@@ -74,18 +75,18 @@ module _ (c : Console) where
         some .0 ∙ ap (λ (t : Taken). t .unit) same,
       )
 
-  pub final-transcript : (input : List ℕ) → Stands c input → textOf input ++ finalText c ≡ transcript input
-  final-transcript input s =
-      let u = after newUnit (ended input) in
+  pub final-transcript : (u : U.Unit) (input : List ℕ) → Stands c u input → textOf u input ++ finalText c ≡ transcript u input
+  final-transcript u input s =
+      let v = after u (ended input) in
       let last = lastLine (rest input) in
       let here = last-is (rest input) (s .fits) (s .size) (s .part) in
-      let text : lastText c ≡ answers u last = here .0 ∙ ap (λ (v : U.Unit). answers v last) (s .unit) in
-      let unit : lastUnit c ≡ after newUnit (linesOf input) =
-      here .1 ∙ ap (λ (v : U.Unit). after v last) (s .unit) ∙ sym (after-append newUnit (ended input) last) in
-      sym (append-assoc (textOf input) (lastText c) (statusText (statusOf (lastUnit c))))
-      ∙ ap (λ (t : List ℕ). textOf input ++ t ++ statusText (statusOf (lastUnit c))) text
-      ∙ ap (λ (t : List ℕ). t ++ statusText (statusOf (lastUnit c))) (sym (answers-append newUnit (ended input) last))
-      ∙ ap (λ (v : U.Unit). answers newUnit (linesOf input) ++ statusText (statusOf v)) unit
+      let text : lastText c ≡ answers v last = here .0 ∙ ap (λ (w : U.Unit). answers w last) (s .unit) in
+      let unit : lastUnit c ≡ after u (linesOf input) =
+      here .1 ∙ ap (λ (w : U.Unit). after w last) (s .unit) ∙ sym (after-append u (ended input) last) in
+      sym (append-assoc (textOf u input) (lastText c) (statusText (statusOf (lastUnit c))))
+      ∙ ap (λ (t : List ℕ). textOf u input ++ t ++ statusText (statusOf (lastUnit c))) text
+      ∙ ap (λ (t : List ℕ). t ++ statusText (statusOf (lastUnit c))) (sym (answers-append u (ended input) last))
+      ∙ ap (λ (w : U.Unit). answers u (linesOf input) ++ statusText (statusOf w)) unit
 
 -- ---- what `finish` hands back
 
@@ -98,7 +99,7 @@ module _ (c : Console) (output : List ℕ) where
   pub finished-short : length output < FINAL → Finished 0 output
   finished-short h =
       let t = lt-ltb (length output) FINAL h in
-      (rw t, (rw t, (omega arith, (λ input s l. absurd (omega arith), record { behind = refl; output = λ (none : _≡_ {A = ℕ} 0 0). refl }))))
+      (rw t, (rw t, (omega arith, (λ u input s l. absurd (omega arith), record { behind = refl; output = λ (none : _≡_ {A = ℕ} 0 0). refl }))))
 
   pub last-room : (middle : List ℕ) (w : ℕ) → FINAL ≤ length output → w ≡ length (lastText c) → middle ≡ withText output 0 (lastText c)
       → w + STATUS ≤ length middle
@@ -125,7 +126,7 @@ module _ (c : Console) (output : List ℕ) where
           (
             rw (buffer, whole) (omega (arith, withText-length output 0 (finalText c) fits, fits)),
             (
-              λ input s l. rw (whole, buffer, withText-front output (finalText c)) (final-transcript c input s),
+              λ v input s l. rw (whole, buffer, withText-front output (finalText c)) (final-transcript c v input s),
               record { behind = behind; output = λ (none : r ≡ 0). rw none at behind },
             ),
           ),

@@ -11,7 +11,7 @@ use Rattle.unit.specs.Claim.{isAccepted}
 use Rattle.unit.specs.Event.{eventByte}
 use Rattle.unit.specs.Take.{takenOf}
 use Rattle.unit.proofs.Refusals.{refusal-keeps}
-use Rattle.console.specs.Text.{NEWLINE}
+use Rattle.text.specs.Text.{NEWLINE}
 use Rattle.console.specs.State.{HELD, pending, heldOf, endedOf, steppedOf, accepts, consoleAfter}
 use Rattle.console.specs.declared.Console.{Console}
 

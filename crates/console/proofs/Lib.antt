@@ -1,11 +1,9 @@
 -- What the proofs of the console's functions cite.
-pub mod BufferLaws
 pub mod LineLaws
 pub mod SplitLaws
 pub mod StandLaws
 pub mod PartLaws
 pub mod KeptLaws
 pub mod FeedLaws
-pub mod StatusLaws
 pub mod FinishLaws
 pub mod PieceLaws

@@ -10,12 +10,11 @@ use lib.Dec.{leb, eqb}
 use lib.ListN.{length, take}
 use lib.Seq.{take-all, length-take-le}
 use Rattle.laws.proofs.Bools.{either}
-use Rattle.line.specs.Read.{readOf}
-use Rattle.line.proofs.ReadLaws.{refused-length}
-use Rattle.unit.specs.Take.{takenOf, takenRead}
+use Rattle.unit.specs.Take.{takenOf}
+use Rattle.unit.proofs.Long.{refused-long}
 use Rattle.unit.specs.Reached.{after}
 use Rattle.unit.specs.declared.Unit as U
-use Rattle.console.specs.Text.{NEWLINE, answerText}
+use Rattle.text.specs.Text.{NEWLINE, answerText}
 use Rattle.console.specs.Lines.{endedAfter, restAfter}
 use Rattle.console.specs.Transcript.{answers}
 use Rattle.console.specs.State.{HELD}
@@ -79,14 +78,10 @@ answers-append u (l ∷ ls) ms =
 
 -- ---- a line of 69 bytes or more is answered as its first 69 are: either is refused for its length
 
-read-cut : (l : List ℕ) → HELD < length l → readOf (take HELD l) ≡ readOf l
-read-cut l h =
-    let cut : length (take HELD l) ≡ HELD = length-take-le HELD l (omega arith) in
-    refused-length (take HELD l) (λ e. omega arith) ∙ sym (refused-length l (λ e. omega arith))
-
 pub taken-cut : (u : U.Unit) (l : List ℕ) → takenOf u (take HELD l) ≡ takenOf u l
-unfolding takenOf
-taken-cut u l =
-    ⊎-elim (λ e. ap (λ (m : List ℕ). takenRead u (readOf m)) (take-all HELD l (leb-true (length l) HELD e)))
-    (λ e. ap (takenRead u) (read-cut l (leb-false (length l) HELD e)))
-    (either (leb (length l) HELD))
+taken-cut u l = ⊎-elim (λ e. ap (takenOf u) (take-all HELD l (leb-true (length l) HELD e))) (λ e. long (leb-false (length l) HELD e)) (either (leb (length l) HELD))
+  where
+    long : HELD < length l → takenOf u (take HELD l) ≡ takenOf u l
+    long h =
+        let cut : length (take HELD l) ≡ HELD = length-take-le HELD l (omega arith) in
+        refused-long u (take HELD l) (omega arith) ∙ sym (refused-long u l (omega arith))

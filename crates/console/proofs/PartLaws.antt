@@ -10,13 +10,13 @@ use native.Mathlib.Omega.{arith}
 use borrow.Author.Tests.{lt-ltb, le-ltb, ltb-false}
 use lib.Dec.{eqb, ltb}
 use lib.ListN.{length, take, drop, getD, set, length-drop, take-append-drop}
-use lib.Seq.{take-suc, take-add, take-all, length-take-le}
+use lib.Seq.{take-suc, take-add, take-take, getD-take, length-take-le}
 use Rattle.laws.proofs.Bools.{either, or-neither}
 use Rattle.laws.proofs.Gathered.{joined, with-the-next, each}
 use Rattle.console.specs.declared.Console.{Console}
-use Rattle.console.specs.bounds.Room.{ANSWER}
-use Rattle.console.specs.Text.{NEWLINE}
-use Rattle.console.specs.Lines.{hasNewline}
+use Rattle.text.specs.bounds.Room.{ANSWER}
+use Rattle.text.specs.Text.{NEWLINE}
+use Rattle.console.specs.Lines.{hasNewline, Before}
 use Rattle.console.specs.State.{HELD, heldOf, steppedOf, stepText, consoleAfter, textAfter}
 use Rattle.console.specs.Feed.{takes}
 use Rattle.console.proofs.StandLaws.{step-other}
@@ -82,28 +82,36 @@ full c (x ∷ xs) h k =
     let same : steppedOf c x ≡ c = step-other c x (both .0) .0 ∙ rw (le-ltb (c .held) HELD k) in
     ap (λ (d : Console). consoleAfter d xs) same ∙ full c xs (both .1) k
 
-module _ (c₀ : Console) (part : List ℕ) (clear : hasNewline part ≡ false) where
-  pub part-more : (c : Console) (i : ℕ) → c ≡ consoleAfter c₀ (take i part) → i < length part → c .held < HELD
-      → record { unit = c .unit; held = c .held + 1; bytes = set (c .bytes) (c .held) (getD part i 0) } ≡ consoleAfter c₀ (take (i + 1) part)
+module _ (c₀ : Console) (input : List ℕ) (end : ℕ) (b : Before input end) where
+  part-other : (i : ℕ) → i < end → eqb (getD input i 0) NEWLINE ≡ false
+  part-other i h =
+      let long : length (take end input) ≡ end = length-take-le end input (b .within) in
+      rw (getD-take end input i 0 h) at (clear-at (take end input) i (b .clear) (omega arith))
+
+  pub part-more : (c : Console) (i : ℕ) → c ≡ consoleAfter c₀ (take i input) → i < end → c .held < HELD
+      → record { unit = c .unit; held = c .held + 1; bytes = set (c .bytes) (c .held) (getD input i 0) } ≡ consoleAfter c₀ (take (i + 1) input)
   part-more c i e h k =
-      let x = getD part i 0 in
-      let next : take (i + 1) part ≡ take i part ++ x ∷ [] = rw add-one (take-suc part i 0 h) in
-      let one : heldOf c x ≡ consoleAfter c₀ (take (i + 1) part) =
-      sym (step-other c x (clear-at part i clear h) .0)
+      let x = getD input i 0 in
+      let inside : i < length input = omega (arith, b .within) in
+      let next : take (i + 1) input ≡ take i input ++ x ∷ [] = rw add-one (take-suc input i 0 inside) in
+      let one : heldOf c x ≡ consoleAfter c₀ (take (i + 1) input) =
+      sym (step-other c x (part-other i h) .0)
       ∙ ap (λ (d : Console). steppedOf d x) e
-      ∙ sym (console-append c₀ (take i part) (x ∷ []))
+      ∙ sym (console-append c₀ (take i input) (x ∷ []))
       ∙ ap (consoleAfter c₀) (sym next) in
       rw (lt-ltb (c .held) HELD k) at one
 
   -- all is held, or there is no more room
-  pub part-end : (c : Console) (i : ℕ) → c ≡ consoleAfter c₀ (take i part) → (ltb i (length part) && ltb (c .held) HELD) ≡ false → c ≡ consoleAfter c₀ part
-  part-end c i e s =
+  pub part-end : (c : Console) (i : ℕ) → c ≡ consoleAfter c₀ (take i input) → i ≤ end → (ltb i end && ltb (c .held) HELD) ≡ false
+      → c ≡ consoleAfter c₀ (take end input)
+  part-end c i e h s =
+      let part = take end input in
       ⊎-elim
       (λ t.
       let no = ltb-false (c .held) HELD (rw t at s) in
-      sym (full c (drop i part) (clear-drop part i clear) no)
-      ∙ ap (λ (d : Console). consoleAfter d (drop i part)) e
+      sym (full c (drop i part) (clear-drop part i (b .clear)) no)
+      ∙ ap (λ (d : Console). consoleAfter d (drop i part)) (e ∙ ap (consoleAfter c₀) (sym (take-take i end input h)))
       ∙ sym (console-append c₀ (take i part) (drop i part))
       ∙ ap (consoleAfter c₀) (take-append-drop i part))
-      (λ t. e ∙ ap (consoleAfter c₀) (take-all i part (ltb-false i (length part) t)))
-      (either (ltb i (length part)))
+      (λ t. let all : i ≡ end = omega (arith, ltb-false i end t) in e ∙ ap (λ (n : ℕ). consoleAfter c₀ (take n input)) all)
+      (either (ltb i end))

@@ -7,7 +7,7 @@ use borrow.Author.Tests.{eqb-true}
 use lib.Dec.{eqb}
 use lib.Seq.{append-snoc}
 use Rattle.laws.proofs.Bools.{or-neither}
-use Rattle.console.specs.Text.{NEWLINE}
+use Rattle.text.specs.Text.{NEWLINE}
 use Rattle.console.specs.Lines.{endedAfter, restAfter, unlines, hasNewline, Split, SplitIs}
 
 more-clean : (p : List ℕ) (x : ℕ) → hasNewline p ≡ false → eqb x NEWLINE ≡ false → hasNewline (p ++ x ∷ []) ≡ false

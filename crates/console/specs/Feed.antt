@@ -5,8 +5,9 @@ use mathlib.Core.Bool.{false, cond}
 use mathlib.Core.List.{List, [], _∷_, _++_}
 use lib.Dec.{ltb}
 use lib.ListN.{length, take}
-use Rattle.console.specs.bounds.Room.{ANSWER}
-use Rattle.console.specs.Buffer.{withText, SameFrom}
+use Rattle.unit.specs.declared.Unit as U
+use Rattle.text.specs.bounds.Room.{ANSWER}
+use Rattle.text.specs.Buffer.{withText, SameFrom}
 use Rattle.console.specs.State.{steppedOf, stepText, accepts, consoleAfter, textAfter}
 use Rattle.console.specs.Stands.{Stands}
 use Rattle.console.specs.Transcript.{textOf}
@@ -38,10 +39,10 @@ pub record Progress (input output : List ℕ) (r : Fed) : Type 0 where
   pub written : r .written ≤ length output
   pub some : 0 < length input → ANSWER ≤ length output → 0 < r .taken
 
--- whatever input stood before, the console now stands for that and what is taken, and what is written is what the text grew by
+-- whatever unit and input it stood for, the console now stands for them and what is taken, and what is written is what the text grew by
 pub record Continued (start : Console) (input output : List ℕ) (r : Fed) : Type 0 where
-  pub stands : (before : List ℕ) → Stands start before → Stands (r .console) (before ++ take (r .taken) input)
-  pub text : (before : List ℕ) → Stands start before → textOf (before ++ take (r .taken) input) ≡ textOf before ++ take (r .written) output
+  pub stands : (u : U.Unit) (before : List ℕ) → Stands start u before → Stands (r .console) u (before ++ take (r .taken) input)
+  pub text : (u : U.Unit) (before : List ℕ) → Stands start u before → textOf u (before ++ take (r .taken) input) ≡ textOf u before ++ take (r .written) output
 
 -- A refusal changes nothing: the unit is the one given where no line that was taken is accepted. The output from `written` on is as it was, and
 -- where nothing is taken all is as it was.

@@ -8,9 +8,9 @@ use lib.ListN.{length, take}
 use Rattle.unit.specs.Take.{takenOf}
 use Rattle.unit.specs.Status.{statusOf}
 use Rattle.unit.specs.declared.Unit as U
-use Rattle.console.specs.Text.{answerText, statusText}
+use Rattle.text.specs.Text.{answerText, statusText}
 use Rattle.console.specs.bounds.Room.{FINAL}
-use Rattle.console.specs.Buffer.{withText, SameFrom}
+use Rattle.text.specs.Buffer.{withText, SameFrom}
 use Rattle.console.specs.State.{pending}
 use Rattle.console.specs.Stands.{Stands}
 use Rattle.console.specs.Transcript.{textOf, transcript}
@@ -38,9 +38,9 @@ finishedOf c room = cond (ltb room FINAL) 0 (length (finalText c))
 abbrev pub finishedBuffer : Console → List ℕ → List ℕ
 finishedBuffer c output = cond (ltb (length output) FINAL) output (withText output 0 (finalText c))
 
--- whatever input the console stands for: what is written is what its transcript has after the answers so far
+-- whatever unit and input the console stands for: what is written is what the transcript has after the answers so far
 abbrev pub Completes : Console → List ℕ → List ℕ → ℕ → Type 0
-Completes c entry exit r = (input : List ℕ) → Stands c input → FINAL ≤ length entry → textOf input ++ take r exit ≡ transcript input
+Completes c entry exit r = (u : U.Unit) (input : List ℕ) → Stands c u input → FINAL ≤ length entry → textOf u input ++ take r exit ≡ transcript u input
 
 -- the output from what is handed back on is as it was, and where that is 0 all of it is
 pub record FinishKept (entry exit : List ℕ) (r : ℕ) : Type 0 where

@@ -1,9 +1,7 @@
 -- Document 01, "The program".
-pub mod Text
 pub mod Lines
 pub mod Transcript
 pub mod bounds
-pub mod Buffer
 pub mod State
 pub mod Stands
 pub mod Feed

@@ -1,10 +1,11 @@
 -- Document 01, "The program": the lines of the input. A newline ends a line and is no part of it. An unended last line counts if not empty.
-use Prim.Native.Nat.{ℕ}
+use Prim.Native.Nat.{ℕ, _≤_, _<_}
 use mathlib.Core.Path.{_≡_}
 use mathlib.Core.Bool.{Bool, false, cond, _||_}
 use mathlib.Core.List.{List, [], _∷_, _++_}
 use lib.Dec.{eqb}
-use Rattle.console.specs.Text.{NEWLINE}
+use lib.ListN.{length, take, getD}
+use Rattle.text.specs.Text.{NEWLINE}
 
 -- the lines that are ended, where p stands before the input, as the start of its first line
 unfoldable pub endedAfter : List ℕ → List ℕ → List (List ℕ)
@@ -39,6 +40,12 @@ unlines (l ∷ ls) = l ++ NEWLINE ∷ unlines ls
 abbrev pub hasNewline : List ℕ → Bool
 hasNewline [] = false
 hasNewline (x ∷ xs) = eqb x NEWLINE || hasNewline xs
+
+-- so many bytes stand before the first newline: all, where there is none
+pub record Before (input : List ℕ) (end : ℕ) : Type 0 where
+  pub within : end ≤ length input
+  pub clear : hasNewline (take end input) ≡ false
+  pub there : end < length input → getD input end 0 ≡ NEWLINE
 
 abbrev pub anyNewline : List (List ℕ) → Bool
 anyNewline [] = false

@@ -1,21 +1,23 @@
 -- What the console holds, and what a byte of the input does to it. What all of it comes to is `transcript`.
 use Prim.Native.Nat.{ℕ, suc, _+_}
+use mathlib.Core.Path.{_≡_}
 use mathlib.Core.Bool.{Bool, false, cond, _&&_, _||_}
 use mathlib.Core.List.{List, [], _∷_, _++_}
 use lib.Dec.{ltb, eqb}
 use lib.ListN.{take, set, replicate}
-use Rattle.line.specs.Digits.{lineLength}
+use Rattle.line.specs.Fields.{lineLength}
 use Rattle.unit.specs.Claim.{isAccepted}
-use Rattle.unit.specs.Take.{newUnit, takenOf}
-use Rattle.console.specs.Text.{NEWLINE, answerText}
+use Rattle.unit.specs.Take.{takenOf}
+use Rattle.unit.specs.declared.Unit as U
+use Rattle.text.specs.Text.{NEWLINE, answerText}
 use Rattle.console.specs.declared.Console.{Console}
 
 -- how many bytes of a line are held: one more than a line has
 abbrev pub HELD : ℕ
 HELD = suc lineLength
 
-abbrev pub newConsole : Console
-newConsole = record { unit = newUnit; held = 0; bytes = replicate HELD 0 }
+abbrev pub newConsole : U.Unit → Console
+newConsole u = record { unit = u; held = 0; bytes = replicate HELD 0 }
 
 -- the part of a line not yet ended, as far as it is held
 abbrev pub pending : Console → List ℕ
@@ -44,6 +46,11 @@ accepts c (x ∷ xs) = (eqb x NEWLINE && isAccepted (takenOf (c .unit) (pending 
 abbrev pub consoleAfter : Console → List ℕ → Console
 consoleAfter c [] = c
 consoleAfter c (x ∷ xs) = consoleAfter (steppedOf c x) xs
+
+-- what is held after bytes that end no line, whatever the unit
+abbrev pub Holds : ℕ → List ℕ → List ℕ → ℕ → List ℕ → Type 0
+Holds held₀ bytes₀ xs held bytes =
+    (u : U.Unit) → record { unit = u; held = held; bytes = bytes } ≡ consoleAfter (record { unit = u; held = held₀; bytes = bytes₀ }) xs
 
 abbrev pub textAfter : Console → List ℕ → List ℕ
 textAfter c [] = []

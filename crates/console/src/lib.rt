@@ -1,29 +1,26 @@
 // The text around the unit: bytes in, bytes out, with no input or output of its own.
 
-mod answer;
 mod newline;
-mod report;
-mod text;
 
-use answer::ANSWER;
-use answer::put_answer;
 use line::DIGITS;
 use newline::line_end;
-use report::STATUS;
-use report::put_status;
 use text::NEWLINE;
+use text::answer::ANSWER;
+use text::answer::put_answer;
+use text::report::STATUS;
+use text::report::put_status;
 use unit::Unit;
-use unit::new_unit;
 use unit::status;
 use unit::take;
 ghost use mathlib.Core.Path.{_≡_};
-ghost use mathlib.Core.Bool.{false};
 ghost use Prim.Native.Nat.{_≤_};
-ghost use lib.ListN.{length};
-ghost use Rattle.console.specs.Buffer.{withText};
-ghost use Rattle.console.specs.bounds.Room.{ANSWER, FINAL};
-ghost use Rattle.console.specs.Lines.{hasNewline};
-ghost use Rattle.console.specs.State.{newConsole, consoleAfter};
+ghost use lib.ListN.{length, take};
+ghost use Rattle.unit.specs.Reached.{Reached as ReachedUnit};
+ghost use Rattle.text.specs.Buffer.{withText};
+ghost use Rattle.text.specs.bounds.Room.{ANSWER};
+ghost use Rattle.console.specs.bounds.Room.{FINAL};
+ghost use Rattle.console.specs.Lines.{Before};
+ghost use Rattle.console.specs.State.{newConsole, Holds};
 ghost use Rattle.console.specs.Stands.{Reached};
 ghost use Rattle.console.specs.Feed.{fedOf, fedBuffer, Progress, Continued, FeedKept};
 ghost use Rattle.console.specs.Finish.{lastUnit, lastText, finishedOf, finishedBuffer, Completes, FinishKept};
@@ -49,32 +46,40 @@ pub struct Fed {
     pub written: usize,
 }
 
-pub fn new_console() -> Console
-    ensures whole { λ r. ⌜ r ≡ newConsole ⌝ }
+// A console of a unit, which has taken no input.
+pub fn new_console(unit: Unit) -> Console
+    requires { ⌜ ReachedUnit unit ⌝ }
+    ensures whole { λ r. ⌜ r ≡ newConsole unit ⌝ }
     ensures reached { λ r. ⌜ Reached r ⌝ }
 {
     Console {
-        unit: new_unit(),
+        unit,
         held: 0,
         bytes: [0u8; HELD],
     }
 }
 
-// Holds the next part of a line, as far as there is room.
-fn hold(console: Console, part: &[u8]) -> Console
-    requires { ⌜ hasNewline (now part) ≡ false ⌝ }
-    ensures { λ r. ⌜ r ≡ consoleAfter console (now (part .entry)) ⌝ }
+// The part of a line not yet ended, as a console holds it, and how many bytes of the input were in it.
+struct Part {
+    held: usize,
+    bytes: [u8; HELD],
+    end: usize,
+}
+
+// Holds what the input has before its first newline, as far as there is room, whatever the
+// console's unit is.
+fn hold(mut held: usize, mut bytes: [u8; HELD], input: &[u8]) -> Part
+    ensures end { λ r. ⌜ Before (now (input .entry)) (r .end) ⌝ }
+    ensures held { λ r. ⌜ Holds held bytes (take (r .end) (now (input .entry))) (r .held) (r .bytes) ⌝ }
 {
-    let unit = console.unit;
-    let mut held = console.held;
-    let mut bytes = console.bytes;
+    let end = line_end(input);
     let mut i = 0;
-    while (i < part.len()) & (held < HELD) {
-        bytes[held] = part[i];
+    while (i < end) & (held < HELD) {
+        bytes[held] = input[i];
         held += 1;
         i += 1;
     }
-    Console { unit, held, bytes }
+    Part { held, bytes, end }
 }
 
 // Takes the input line by line and answers each that ends, while the output has room for one more
@@ -92,30 +97,26 @@ pub fn feed(start: Console, input: &[u8], output: &mut [u8]) -> Fed
     ensures stands { λ r. ⌜ Continued start (now (input .entry)) (now (output .exit)) r ⌝ }
     ensures kept { λ r. ⌜ FeedKept start (now (input .entry)) (now (output .entry)) (now (output .exit)) r ⌝ }
 {
-    let mut console = start;
+    let mut unit = start.unit;
+    let mut held = start.held;
+    let mut bytes = start.bytes;
     let mut taken = 0;
     let mut written = 0;
     while (taken < input.len()) & (ANSWER <= output.len() - written) {
-        let rest = &input[taken..];
-        let end = line_end(rest);
-        console = hold(console, &rest[..end]);
-        taken += end;
+        let part = hold(held, bytes, &input[taken..]);
+        held = part.held;
+        bytes = part.bytes;
+        taken += part.end;
         if taken < input.len() {
-            let unit = console.unit;
-            let held = console.held;
-            let bytes = console.bytes;
             let answer = take(unit, &bytes[..held]);
             let event = answer.event;
-            let after = answer.unit;
-            console = Console {
-                unit: after,
-                held: 0,
-                bytes,
-            };
+            unit = answer.unit;
+            held = 0;
             written = put_answer(event, output, written);
             taken += 1;
         }
     }
+    let console = Console { unit, held, bytes };
     Fed {
         console,
         taken,
@@ -123,31 +124,22 @@ pub fn feed(start: Console, input: &[u8], output: &mut [u8]) -> Fed
     }
 }
 
-// A unit after the last line, and the place after its answer.
-struct Last {
-    unit: Unit,
-    written: usize,
-}
-
 // Ends a line that is under way, as its newline would.
-fn end_line(console: Console, output: &mut [u8]) -> Last
+fn end_line(console: Console, output: &mut [u8]) -> Fed
     requires { ⌜ Reached console × (ANSWER ≤ length (now output)) ⌝ }
-    ensures unit { λ r. ⌜ r .unit ≡ lastUnit console ⌝ }
+    ensures unit { λ r. ⌜ r .console .unit ≡ lastUnit console ⌝ }
     ensures place { λ r. ⌜ r .written ≡ length (lastText console) ⌝ }
     ensures text { λ r. ⌜ now (output .exit) ≡ withText (now (output .entry)) 0 (lastText console) ⌝ }
 {
-    let unit = console.unit;
     if console.held == 0 {
-        return Last { unit, written: 0 };
+        return Fed {
+            console,
+            taken: 0,
+            written: 0,
+        };
     }
     let newline = [NEWLINE];
-    let fed = feed(console, &newline, output);
-    let ended = fed.console;
-    let after = ended.unit;
-    Last {
-        unit: after,
-        written: fed.written,
-    }
+    feed(console, &newline, output)
 }
 
 // Ends the last line and writes the status. To a buffer that could be too short nothing is written.
@@ -166,7 +158,5 @@ pub fn finish(console: Console, output: &mut [u8]) -> usize
         return 0;
     }
     let last = end_line(console, output);
-    let written = last.written;
-    let unit = last.unit;
-    put_status(status(unit), output, written)
+    put_status(status(last.console.unit), output, last.written)
 }

@@ -1,12 +1,8 @@
 // Where a line ends.
 
-use crate::text::NEWLINE;
+use text::NEWLINE;
 ghost use mathlib.Core.Path.{_≡_};
-ghost use mathlib.Core.Bool.{false};
-ghost use Prim.Native.Nat.{_<_, _≤_};
-ghost use lib.ListN.{length, take, getD};
-ghost use Rattle.console.specs.Text.{NEWLINE};
-ghost use Rattle.console.specs.Lines.{hasNewline};
+ghost use Rattle.console.specs.Lines.{hasNewline, Before};
 
 // So many bytes are looked at at once.
 const BLOCK: usize = 32;
@@ -26,18 +22,15 @@ fn has_newline(part: &[u8]) -> bool
 
 // How many bytes stand before the first newline: all, where there is none.
 pub fn line_end(part: &[u8]) -> usize
-    ensures within { λ r. ⌜ r ≤ length (now (part .entry)) ⌝ }
-    ensures before { λ r. ⌜ hasNewline (take r (now (part .entry))) ≡ false ⌝ }
-    ensures there { λ r. ⌜ (r < length (now (part .entry)) → getD (now (part .entry)) r 0 ≡ NEWLINE) ⌝ }
+    ensures { λ r. ⌜ Before (now (part .entry)) r ⌝ }
 {
     let mut i = 0;
-    let mut found = false;
-    while !found & (BLOCK <= part.len() - i) {
+    while BLOCK <= part.len() - i {
         let end = i + BLOCK;
-        found = has_newline(&part[i..end]);
-        if !found {
-            i = end;
+        if has_newline(&part[i..end]) {
+            break;
         }
+        i = end;
     }
     while i < part.len() {
         if part[i] == NEWLINE {

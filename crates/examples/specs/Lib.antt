@@ -1,3 +1,4 @@
 -- The table of examples.
 pub mod Table
 pub mod Witness
+pub mod Another

@@ -7,12 +7,12 @@ use lib.Ieee.{binary32, ofBits}
 use lib.IntN.{ℤ, pos, negℤ}
 use lib.ListN.{length, replicate}
 use Rattle.grounds.specs.Chart.{nextValue, nextFirst, over, valueAfter, firstAfter}
-use Rattle.line.specs.Percent.{accepted, hundredthsOf}
+use Rattle.percent.specs.Percent.{accepted, hundredthsOf}
 use Rattle.line.specs.Refused.{readingRow}
-use Rattle.unit.specs.Contribution.{food, limitOf, incrementOf, variableOf, measureOf, contributionsOf}
-use Rattle.unit.specs.Difference.{powerOf, rootOf, salt, coefficientFor, valueOf, differenceOf}
-use Rattle.unit.specs.Largest.{rootFrom}
-use Rattle.unit.specs.Study.{sumsOf, passesOf}
+use Rattle.difference.specs.Contribution.{food, limitOf, incrementOf, variableOf, measureOf, contributionsOf}
+use Rattle.difference.specs.Difference.{powerOf, rootOf, salt, coefficientFor, valueOf, differenceOf}
+use Rattle.difference.specs.Largest.{rootFrom}
+use Rattle.study.specs.Study.{sumsOf, passesOf}
 
 -- the standardized difference d of a reading h hundredths above the mean
 abbrev pub standardized : ℕ → ℕ → ℕ → ℕ → ℤ

@@ -13,9 +13,10 @@ use lib.ListN.{replicate}
 use Rattle.grounds.specs.Chart.{nextValue, nextFirst}
 use Rattle.grounds.specs.Claim.{TwoMisses, SomeRun, RightRun}
 use Rattle.grounds.specs.Entry.{Entry, misses, stretch, onChart, years}
-use Rattle.line.specs.Digits.{isDigit, digitValue, digitOf, areDigits, bytesOf, digitsOf}
+use Rattle.digits.specs.Digits.{isDigit, digitValue, digitOf, areDigits, bytesOf, digitsOf}
 use Rattle.line.specs.Fields.{PERCENT, LOST, bytesIn, readingOf, taggedOf, recordOf}
-use Rattle.line.specs.Percent.{accepted, hundredthsOf, amountOf}
+use Rattle.line.specs.Amount.{amountOf}
+use Rattle.percent.specs.Percent.{accepted, hundredthsOf}
 use Rattle.line.specs.Read.{fieldsAt, readBy, readOf}
 use Rattle.rows.specs.Rows.{firstRow}
 use Rattle.line.specs.Refused.{kindRow, dateRow, productRow, meanRow, readingRow, MAINTENANCE, STUDY}
@@ -24,14 +25,16 @@ use Rattle.line.specs.declared.fields.Tagged.{Tagged}
 use Rattle.line.specs.declared.record.Record.{Record}
 use Rattle.line.specs.declared.record.Read.the-variants.{Whole}
 use Rattle.line.specs.declared.record.Written.the-variants.{Done, Refused as Unwritten}
-use Rattle.unit.specs.Claim.{history, since, openedIn, CHARTS, limit, entriesOf, shownAt, ClaimOf}
-use Rattle.unit.specs.Contribution.{incrementOf, variableOf, measureOf}
-use Rattle.unit.specs.Difference.{fat, salt, coefficientFor}
-use Rattle.unit.specs.Largest.{rootFrom}
+use Rattle.unit.specs.Charts.{chartsIn, limit}
+use Rattle.unit.specs.Claim.{history, since, openedIn, entriesOf, shownAt, ClaimOf}
+use Rattle.unit.specs.Food.{foodChemistry}
+use Rattle.difference.specs.Contribution.{food, incrementOf, variableOf, measureOf}
+use Rattle.difference.specs.Difference.{fat, salt, coefficientFor}
+use Rattle.difference.specs.Largest.{rootFrom}
 use Rattle.unit.specs.Reached.{replay}
-use Rattle.unit.specs.Status.{statusOf}
-use Rattle.unit.specs.Study.{passesOf}
-use Rattle.unit.specs.Take.{newUnit, takenRecord, takenOf}
+use Rattle.unit.specs.Status.{statusBy, statusOf}
+use Rattle.study.specs.Study.{passesOf}
+use Rattle.unit.specs.Take.{newUnit, takenIn, takenOf}
 use Rattle.unit.specs.declared.event.Event.the-variants.{Refused, UnderWay}
 use Rattle.unit.proofs.Claimed.{claim-holds}
 
@@ -102,7 +105,7 @@ calm = studySet ++ samples (1 ∷ 2 ∷ 3 ∷ 4 ∷ 5 ∷ 6 ∷ 7 ∷ 8 ∷ 9 �
 -- ---- what is read off a list
 
 abbrev pub entries : List (List ℕ) → List Entry
-entries ls = entriesOf (since (history ls))
+entries ls = entriesOf foodChemistry (since (history ls))
 
 abbrev pub opened : List (List ℕ) → Bool
 opened ls = openedIn (since (history ls))
@@ -139,8 +142,8 @@ pub record Witness : Type 0 where
   -- the samples' contributions to that chart
   pub run-samples : onChart 0 (stretch 2013 (entries byRun)) ≡ negℤ (pos 20) ∷ replicate 7 (pos 10)
   -- so, by the claim, there is a run over the limit, and the one shown is right
-  pub run-exists : SomeRun limit (entries byRun) 0
-  pub run-right : RightRun CHARTS limit (entries byRun) 0 3 8 (pos 60)
+  pub run-exists : SomeRun (limit food) (entries byRun) 0
+  pub run-right : RightRun (chartsIn food) (limit food) (entries byRun) 0 3 8 (pos 60)
   -- Probation is opened, and misses alone are named: January does not clear them, and the stretch is new.
   pub misses-opened : opened byMisses ≡ true
   pub misses-status : Status byMisses 3 1 0 true
@@ -152,13 +155,13 @@ pub record Witness : Type 0 where
   pub calm-opened : opened calm ≡ false
   pub calm-status : Status calm 2 12 0 false
   -- so, by the claim, there are no two such misses and no such run on any chart
-  pub calm-holds : ¬ (TwoMisses (entries calm) ⊎ ((c : ℕ) × (c < CHARTS) × SomeRun limit (entries calm) c))
+  pub calm-holds : ¬ (TwoMisses (entries calm) ⊎ ((c : ℕ) × (c < chartsIn food) × SomeRun (limit food) (entries calm) c))
 
 claim-of : (ls : List (List ℕ)) → ClaimOf ls (statusOf (replay ls))
 claim-of ls = claim-holds ls (replay ls) refl
 
 pub witness : Witness
-unfolding isDigit digitValue digitOf areDigits bytesOf digitsOf readingOf taggedOf toBits writtenBy bufferBy writtenOf bufferAfter accepted hundredthsOf amountOf readBy readOf firstRow kindRow dateRow productRow meanRow readingRow nextValue nextFirst incrementOf variableOf measureOf fat salt coefficientFor rootFrom statusOf passesOf takenRecord takenOf ofBits
+unfolding isDigit digitValue digitOf areDigits bytesOf digitsOf readingOf taggedOf toBits writtenBy bufferBy writtenOf bufferAfter accepted hundredthsOf amountOf readBy readOf firstRow kindRow dateRow productRow meanRow readingRow nextValue nextFirst incrementOf variableOf measureOf fat salt coefficientFor rootFrom statusBy passesOf takenIn ofBits
 witness = record {
   line-is = refl;
   line-refused = refl;

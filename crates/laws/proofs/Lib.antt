@@ -6,5 +6,8 @@ pub mod Table
 pub mod Cond
 pub mod Order
 pub mod Word
+pub mod Casts
+pub mod Signs
 pub mod Lists
 pub mod Gathered
+pub mod EachLaws

@@ -1,12 +1,12 @@
--- Lists grown at their end. Assumes nothing.
-use Prim.Native.Nat.{ℕ, suc, _≤_, _<_}
-use mathlib.Core.Path.{_≡_, _∙_}
+-- Lists grown at their end, and lists of one element many times. Assumes nothing.
+use Prim.Native.Nat.{ℕ, zero, suc, _≤_, _<_}
+use mathlib.Core.Path.{_≡_, refl, _∙_}
 use mathlib.Core.List.{List, [], _∷_, _++_, append-nil}
 use mathlib.Core.Logic.{⊎-elim}
 use native.Mathlib.Nat.{eq-or-lt-of-le}
 use native.Mathlib.Numerals.{add-one}
 use native.Mathlib.Omega.{arith}
-use lib.ListN.{length, getD, length-append, List·getD-append}
+use lib.ListN.{length, getD, replicate, length-append, List·getD-append}
 use lib.Seq.{append-snoc, getD-append-seam}
 
 -- what holds of the empty list and is kept by one more element holds of every list
@@ -38,3 +38,9 @@ at-most-more ns most n old h i l = ⊎-elim
     (λ (e : i ≡ length ns). omega (arith, rw (← e) at (last-more ns n)))
     (λ (k : i < length ns). omega (arith, before-more ns n i k, old i k))
     (eq-or-lt-of-le (omega (arith, length-more ns n)))
+
+-- one element many times: it stands at every place, and is what stands beyond
+pub same-at : {A : Type 0} (n i : ℕ) (a : A) → getD (replicate n a) i a ≡ a
+same-at zero i a = refl
+same-at (suc n) zero a = refl
+same-at (suc n) (suc i) a = same-at n i a

@@ -1,43 +1,51 @@
 -- Fields, bytes and records: the parts of the 34 bytes. Assumes nothing.
-use Prim.Native.Nat.{ℕ, zero, suc, _+_, _*_, _/_, _%_, _<_}
-use mathlib.Core.Path.{_≡_, refl, sym, ap, ap₂, _∙_}
+use Prim.Native.Nat.{ℕ, zero, suc, _+_, _^_, _<_}
+use mathlib.Core.Path.{_≡_, refl, sym, ap, _∙_}
 use mathlib.Core.List.{List, [], _∷_}
+use native.Mathlib.Numerals.{add-one}
 use native.Mathlib.Omega.{arith}
-use lib.Dec.{lit<}
 use lib.ListN.{length, getD, set}
-use Rattle.line.specs.Digits.{lineBytes}
-use Rattle.line.specs.Fields.{one, two, tagged, bytes2, bytes4, bytes5, bytesIn, fieldsIn}
+use lib.Seq.{sets}
+use Rattle.digits.specs.Numbers.{AreBytes, oneAt, twoAt, fourAt, numberBytes}
+use Rattle.digits.proofs.NumberLaws.{byte-at, number-lt, bytes-back as number-bytes}
+use Rattle.line.specs.Fields.{lineBytes, tagged, bytes5, bytesIn, fieldsIn}
 use Rattle.line.specs.declared.fields.Fields.{Fields}
 use Rattle.line.specs.declared.fields.Tagged.{Tagged}
-use Rattle.line.proofs.ByteLaws.{AreBytes}
 
 -- ---- the fields, from the numbers and the tagged readings among them
 
-pub joined-fields : (bs : List ℕ) {y m p t s : ℕ} {a b c d : Tagged} → y ≡ two bs 1 → m ≡ two bs 6 → p ≡ two bs 8 → t ≡ two bs 10 → s ≡ two bs 12
+pub joined-fields : (bs : List ℕ) {k y o e u m p t s : ℕ} {a b c d : Tagged} → k ≡ oneAt bs 0 → y ≡ twoAt bs 1 → o ≡ oneAt bs 3 → e ≡ oneAt bs 4 → u ≡ oneAt bs 5
+    → m ≡ twoAt bs 6 → p ≡ twoAt bs 8 → t ≡ twoAt bs 10 → s ≡ twoAt bs 12
     → a ≡ tagged bs 14 → b ≡ tagged bs 19 → c ≡ tagged bs 24 → d ≡ tagged bs 29
     → record {
-      kind = one bs 0;
+      kind = k;
       year = y;
-      month = one bs 3;
-      days = one bs 4;
-      product = one bs 5;
+      month = o;
+      days = e;
+      product = u;
       means = record { moisture = m; protein = p; fat = t; salt = s };
       moisture = a;
       protein = b;
       fat = c;
       salt = d;
     } ≡ fieldsIn bs
-joined-fields bs ey em ep et es ea eb ec ed = rw (ey, em, ep, et, es, ea, eb, ec, ed)
+joined-fields bs ek ey eo ee eu em ep et es ea eb ec ed = rw (ek, ey, eo, ee, eu, em, ep, et, es, ea, eb, ec, ed)
 
 -- ---- the 34 bytes, filled part by part
 
 abbrev put2 : ℕ → ℕ → List ℕ → List ℕ
-put2 i n b = set (set b i (n / 256)) (i + 1) (n % 256)
+put2 i n b = sets b i (numberBytes 2 n)
 
 abbrev put5 : ℕ → Tagged → List ℕ → List ℕ
-put5 i t b =
-    set (set (set (set (set b i (t .tag)) (i + 1) (t .bits / 16777216)) (i + 2) (t .bits / 65536 % 256)) (i + 3) (t .bits / 256 % 256)) (i + 4)
-    (t .bits % 256)
+put5 i t b = sets b i (bytes5 t)
+
+pub five-stored : (b : List ℕ) (i v : ℕ) (l : List ℕ) → set (set (set (set (set b i v) (i + 1) (getD l 0 0)) (i + 2) (getD l 1 0)) (i + 3) (getD l 2 0)) (i + 4) (getD l 3 0)
+    ≡ sets b i (v ∷ getD l 0 0 ∷ getD l 1 0 ∷ getD l 2 0 ∷ getD l 3 0 ∷ [])
+five-stored b i v l =
+    let two : i + 2 ≡ suc (suc i) = omega arith in
+    let three : i + 3 ≡ suc (suc (suc i)) = omega arith in
+    let four : i + 4 ≡ suc (suc (suc (suc i))) = omega arith in
+    rw (add-one i, two, three, four)
 
 -- the fields of one byte stand, and every other place is 0
 abbrev singles : Fields → List ℕ
@@ -72,8 +80,8 @@ gathered f y m p t s a b c d =
     ∷ getD c 0 0 ∷ getD c 1 0 ∷ getD c 2 0 ∷ getD c 3 0 ∷ getD c 4 0
     ∷ getD d 0 0 ∷ getD d 1 0 ∷ getD d 2 0 ∷ getD d 3 0 ∷ getD d 4 0 ∷ []
 
-gather : (f : Fields) {y m p t s a b c d : List ℕ} → y ≡ bytes2 (f .year) → m ≡ bytes2 (f .means .moisture) → p ≡ bytes2 (f .means .protein)
-    → t ≡ bytes2 (f .means .fat) → s ≡ bytes2 (f .means .salt) → a ≡ bytes5 (f .moisture) → b ≡ bytes5 (f .protein) → c ≡ bytes5 (f .fat)
+gather : (f : Fields) {y m p t s a b c d : List ℕ} → y ≡ numberBytes 2 (f .year) → m ≡ numberBytes 2 (f .means .moisture) → p ≡ numberBytes 2 (f .means .protein)
+    → t ≡ numberBytes 2 (f .means .fat) → s ≡ numberBytes 2 (f .means .salt) → a ≡ bytes5 (f .moisture) → b ≡ bytes5 (f .protein) → c ≡ bytes5 (f .fat)
     → d ≡ bytes5 (f .salt) → gathered f y m p t s a b c d ≡ bytesIn f
 gather f ey em ep et es ea eb ec ed = rw (ey, em, ep, et, es, ea, eb, ec, ed)
 
@@ -87,34 +95,20 @@ tabulated : (l : List ℕ) → l ≡ tabulate (length l) (λ k. getD l k 0)
 tabulated [] = refl
 tabulated (a ∷ l) = ap (λ (m : List ℕ). a ∷ m) (tabulated l)
 
-pub byte-at : (bs : List ℕ) → AreBytes bs → (i : ℕ) → getD bs i 0 < 256
-byte-at [] A i = lit< tt
-byte-at (b ∷ bs) A zero = A .0
-byte-at (b ∷ bs) A (suc i) = byte-at bs (A .1) i
-
-split2 : (a b : ℕ) → b < 256 → bytes2 (256 * a + b) ≡ a ∷ b ∷ []
-split2 a b h =
-    let e : (256 * a + b) / 256 ≡ a = omega arith in
-    let f : (256 * a + b) % 256 ≡ b = omega arith in
-    ap₂ (λ (x y : ℕ). x ∷ y ∷ []) e f
-
-split4 : (a b c d : ℕ) → b < 256 → c < 256 → d < 256 → bytes4 (65536 * (256 * a + b) + (256 * c + d)) ≡ a ∷ b ∷ c ∷ d ∷ []
-split4 a b c d B C D =
-    let n = 65536 * (256 * a + b) + (256 * c + d) in
-    let e : n / 16777216 ≡ a = omega arith in
-    let f : n / 65536 % 256 ≡ b = omega arith in
-    let g : n / 256 % 256 ≡ c = omega arith in
-    let h : n % 256 ≡ d = omega arith in
-    ap₂ (λ (x y : ℕ). x ∷ y ∷ n / 256 % 256 ∷ n % 256 ∷ []) e f ∙ ap₂ (λ (x y : ℕ). a ∷ b ∷ x ∷ y ∷ []) g h
-
 module _ (bs : List ℕ) (A : AreBytes bs) where
-  two-split : (i : ℕ) → getD bs i 0 ∷ getD bs (i + 1) 0 ∷ [] ≡ bytes2 (two bs i)
-  two-split i = sym (split2 (getD bs i 0) (getD bs (i + 1) 0) (byte-at bs A (i + 1)))
+  four-are : (i : ℕ) → AreBytes (getD bs i 0 ∷ getD bs (i + 1) 0 ∷ getD bs (i + 2) 0 ∷ getD bs (i + 3) 0 ∷ [])
+  four-are i = (byte-at bs A i, (byte-at bs A (i + 1), (byte-at bs A (i + 2), (byte-at bs A (i + 3), tt))))
 
-  tagged-split : (i : ℕ) → getD bs i 0 ∷ getD bs (i + 1) 0 ∷ getD bs (i + 1 + 1) 0 ∷ getD bs (i + 1 + 2) 0 ∷ getD bs (i + 1 + 2 + 1) 0 ∷ [] ≡ bytes5 (tagged bs i)
+  pub bits-lt : (i : ℕ) → fourAt bs i < 2 ^ 32
+  bits-lt i = number-lt (getD bs i 0 ∷ getD bs (i + 1) 0 ∷ getD bs (i + 2) 0 ∷ getD bs (i + 3) 0 ∷ []) (four-are i)
+
+  two-split : (i : ℕ) → getD bs i 0 ∷ getD bs (i + 1) 0 ∷ [] ≡ numberBytes 2 (twoAt bs i)
+  two-split i = sym (number-bytes (getD bs i 0 ∷ getD bs (i + 1) 0 ∷ []) (byte-at bs A i, (byte-at bs A (i + 1), tt)))
+
+  tagged-split : (i : ℕ) → getD bs i 0 ∷ getD bs (i + 1) 0 ∷ getD bs (i + 1 + 1) 0 ∷ getD bs (i + 1 + 2) 0 ∷ getD bs (i + 1 + 3) 0 ∷ [] ≡ bytes5 (tagged bs i)
   tagged-split i =
       ap (λ (l : List ℕ). getD bs i 0 ∷ l)
-      (sym (split4 (getD bs (i + 1) 0) (getD bs (i + 1 + 1) 0) (getD bs (i + 1 + 2) 0) (getD bs (i + 1 + 2 + 1) 0) (byte-at bs A (i + 1 + 1)) (byte-at bs A (i + 1 + 2)) (byte-at bs A (i + 1 + 2 + 1))))
+      (sym (number-bytes (getD bs (i + 1) 0 ∷ getD bs (i + 1 + 1) 0 ∷ getD bs (i + 1 + 2) 0 ∷ getD bs (i + 1 + 3) 0 ∷ []) (four-are (i + 1))))
 
   pub bytes-back : length bs ≡ lineBytes → bytesIn (fieldsIn bs) ≡ bs
   bytes-back e =

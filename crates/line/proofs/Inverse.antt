@@ -1,8 +1,8 @@
 -- Reading and writing are inverse. Assumes nothing.
-use Prim.Native.Nat.{ℕ, zero, suc, _+_, _*_, _/_, _%_, _^_, _≤_, _<_}
+use Prim.Native.Nat.{ℕ, zero, suc, _^_, _≤_, _<_}
 use mathlib.Core.Path.{_≡_, refl, sym, ap, ap₂, _∙_, subst}
 use mathlib.Core.Bool.{Bool, true, false, cond, not}
-use mathlib.Core.List.{List, [], _++_}
+use mathlib.Core.List.{List, [], _∷_}
 use mathlib.Core.Logic.{_⊎_, inl, inr, ⊎-elim}
 use native.Mathlib.Omega.{arith}
 use borrow.Author.Tests.{eqb-true, not-false}
@@ -13,8 +13,9 @@ use lib.Ieee.{binary32, ofBits, toBits}
 use lib.Ieee.Bits.{ofBits-toBits, toBits-ofBits, toBits-lt, nanBits-is}
 use Rattle.rows.specs.Rows.{firstRow}
 use Rattle.rows.proofs.RowsLaws.{passed}
-use Rattle.line.specs.Digits.{lineLength, lineBytes, areDigits, bytesOf, digitsOf}
-use Rattle.line.specs.Fields.{four, bytes2, bytes5, fieldsIn, bytesIn, readingOf, taggedOf, recordOf, fieldsOf}
+use Rattle.digits.specs.Digits.{areDigits, bytesOf, digitsOf}
+use Rattle.digits.specs.Numbers.{BYTE, AreBytes, numberBytes}
+use Rattle.line.specs.Fields.{lineLength, lineBytes, bytes5, fieldsIn, bytesIn, readingOf, taggedOf, recordOf, fieldsOf}
 use Rattle.line.specs.bounds.Types.{Typed, TypedReading}
 use Rattle.line.specs.Inverse.{WritesBack}
 use Rattle.line.specs.Read.{fieldsAt, lineRows, readBy, readOf}
@@ -26,10 +27,12 @@ use Rattle.line.specs.declared.record.Record.{Record}
 use Rattle.line.specs.declared.record.Reading.{Reading}
 use Rattle.line.specs.declared.record.Reading.the-variants.{Percent, NothingFound, Lost}
 use Rattle.line.specs.declared.record.Read.the-variants.{Whole}
-use Rattle.line.proofs.ByteLaws.{AreBytes, length-digitsOf, digitsOf-are, bytes-digits, digits-bytes, bytesOf-are, length-bytesOf}
-use Rattle.line.proofs.FieldLaws.{byte-at, bytes-back}
+use Rattle.percent.proofs.PercentLaws.{percent-bits, not-nan}
+use Rattle.digits.proofs.NumberLaws.{number-back, numberBytes-are}
+use Rattle.digits.proofs.ByteLaws.{length-digitsOf, digitsOf-are, bytes-digits, digits-bytes, bytesOf-are, length-bytesOf}
+use Rattle.line.proofs.FieldLaws.{bits-lt, bytes-back}
 use Rattle.line.proofs.ReadLaws.{read-whole}
-use Rattle.line.proofs.RowLaws.{Clean, clean, good-reading, percent-bits, not-nan}
+use Rattle.line.proofs.RowLaws.{Clean, clean, good-reading}
 use Rattle.line.proofs.WriteLaws.{done}
 
 -- ---- one reading
@@ -76,14 +79,6 @@ fields-back f A B C D c =
 record-back : (r : Record) → Typed r → recordOf (fieldsOf r) ≡ r
 record-back r h =
     rw (reading-back (r .readings .moisture) (h .reading0), reading-back (r .readings .protein) (h .reading1), reading-back (r .readings .fat) (h .reading2), reading-back (r .readings .salt) (h .reading3))
-
--- ---- bytes in range
-
-four-lt : (a b c d : ℕ) → a < 256 → b < 256 → c < 256 → d < 256 → 65536 * (256 * a + b) + (256 * c + d) < 2 ^ 32
-four-lt a b c d A B C D = omega arith
-
-bits-lt : (bs : List ℕ) → AreBytes bs → (i : ℕ) → four bs i < 2 ^ 32
-bits-lt bs A i = four-lt _ _ _ _ (byte-at bs A i) (byte-at bs A (i + 1)) (byte-at bs A (i + 2)) (byte-at bs A (i + 2 + 1))
 
 -- ---- a line that was read is written back
 
@@ -135,24 +130,11 @@ written-again line r e buffer h =
 
 -- ---- a record that was written is read back
 
-two-again : (n : ℕ) → 256 * (n / 256) + n % 256 ≡ n
-two-again n = omega arith
-
-four-again : (n : ℕ) → 65536 * (256 * (n / 16777216) + n / 65536 % 256) + (256 * (n / 256 % 256) + n % 256) ≡ n
-four-again n = omega arith
-
 fields-in-again : (f : Fields) → fieldsIn (bytesIn f) ≡ f
 fields-in-again f =
-    rw (two-again (f .year), two-again (f .means .moisture), two-again (f .means .protein), two-again (f .means .fat), two-again (f .means .salt), four-again (f .moisture .bits), four-again (f .protein .bits), four-again (f .fat .bits), four-again (f .salt .bits))
-
-high-lt : (n : ℕ) → n < 65536 → n / 256 < 256
-high-lt n h = omega arith
-
-low-lt : (n : ℕ) → n % 256 < 256
-low-lt n = omega arith
-
-top-lt : (n : ℕ) → n < 2 ^ 32 → n / 16777216 < 256
-top-lt n h = omega arith
+    let two = number-back 1 in
+    let four = number-back 3 in
+    rw (two (f .year), two (f .means .moisture), two (f .means .protein), two (f .means .fat), two (f .means .salt), four (f .moisture .bits), four (f .protein .bits), four (f .fat .bits), four (f .salt .bits))
 
 tag-lt : (r : Reading) → taggedOf r .tag < 256
 unfolding taggedOf
@@ -166,28 +148,30 @@ typed-bits (Percent x) h = toBits-lt binary32 x h
 typed-bits NothingFound h = omega arith
 typed-bits Lost h = omega arith
 
-five-bytes : (x : Reading) → TypedReading x → (rest : List ℕ) → AreBytes rest → AreBytes (bytes5 (taggedOf x) ++ rest)
-five-bytes x h rest A =
-    let n = taggedOf x .bits in
-    (tag-lt x, (top-lt n (typed-bits x h), (low-lt (n / 65536), (low-lt (n / 256), (low-lt n, A)))))
+-- bytes, and what is known of the rest
+abbrev Then : List ℕ → Type 0 → Type 0
+Then [] P = P
+Then (b ∷ bs) P = (b < BYTE) × Then bs P
 
-pair-bytes : (n : ℕ) → n < 65536 → (rest : List ℕ) → AreBytes rest → AreBytes (bytes2 n ++ rest)
-pair-bytes n h rest A = (high-lt n h, (low-lt n, A))
+then : {P : Type 0} (bs : List ℕ) → AreBytes bs → P → Then bs P
+then [] A p = p
+then (b ∷ bs) A p = (A .0, then bs (A .1) p)
+
+two-then : {P : Type 0} (n : ℕ) → n < 65536 → P → Then (numberBytes 2 n) P
+two-then n h = then (numberBytes 2 n) (numberBytes-are 2 n h)
+
+five-then : {P : Type 0} (x : Reading) → TypedReading x → P → Then (bytes5 (taggedOf x)) P
+five-then x h = then (bytes5 (taggedOf x)) (tag-lt x, numberBytes-are 4 (taggedOf x .bits) (typed-bits x h))
 
 typed-bytes : (r : Record) → Typed r → AreBytes (bytesIn (fieldsOf r))
 typed-bytes r h =
-    let d = bytes5 (taggedOf (r .readings .salt)) in
-    let c = bytes5 (taggedOf (r .readings .fat)) ++ d in
-    let b = bytes5 (taggedOf (r .readings .protein)) ++ c in
-    let a = bytes5 (taggedOf (r .readings .moisture)) ++ b in
-    let s = bytes2 (r .means .salt) ++ a in
-    let t = bytes2 (r .means .fat) ++ s in
-    let p = bytes2 (r .means .protein) ++ t in
-    let A = five-bytes (r .readings .moisture) (h .reading0) b
-    (five-bytes (r .readings .protein) (h .reading1) c (five-bytes (r .readings .fat) (h .reading2) d (five-bytes (r .readings .salt) (h .reading3) [] tt))) in
-    let M = pair-bytes (r .means .moisture) (h .mean0) p
-    (pair-bytes (r .means .protein) (h .mean1) t (pair-bytes (r .means .fat) (h .mean2) s (pair-bytes (r .means .salt) (h .mean3) a A))) in
-    (h .kind, (high-lt (r .year) (h .year), (low-lt (r .year), (h .month, (h .days, (h .product, M))))))
+    let readings =
+    five-then (r .readings .moisture) (h .reading0)
+    (five-then (r .readings .protein) (h .reading1) (five-then (r .readings .fat) (h .reading2) (five-then (r .readings .salt) (h .reading3) tt))) in
+    let means =
+    two-then (r .means .moisture) (h .mean0)
+    (two-then (r .means .protein) (h .mean1) (two-then (r .means .fat) (h .mean2) (two-then (r .means .salt) (h .mean3) readings))) in
+    (h .kind, two-then (r .year) (h .year) (h .month, (h .days, (h .product, means))))
 
 -- Reading what was written returns the same record, bit for bit, for every record that the code can hold and that no row refuses.
 pub read-again : (r : Record) → Typed r → firstRow (fieldRows (fieldsOf r)) ≡ 0 → readOf (lineOf r) ≡ Whole r

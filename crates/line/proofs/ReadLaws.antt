@@ -7,8 +7,8 @@ use borrow.Author.Tests.{eq-eqb, ne-eqb}
 use lib.ListN.{length}
 use Rattle.rows.specs.Rows.{firstRow, distinct, givenBy, Answers}
 use Rattle.rows.proofs.RowsLaws.{first-given}
-use Rattle.line.specs.Digits.{lineLength, areDigits}
-use Rattle.line.specs.Fields.{recordOf}
+use Rattle.digits.specs.Digits.{areDigits}
+use Rattle.line.specs.Fields.{lineLength, recordOf}
 use Rattle.line.specs.Read.{fieldsAt, lineRows, readBy, readOf, readRow}
 use Rattle.line.specs.Refused.{fieldRows}
 use Rattle.line.specs.declared.record.Record.{Record}

@@ -1,21 +1,19 @@
 -- What it says of the fields that no row fits. Assumes nothing.
-use Prim.Native.Nat.{ℕ, _%_, _^_, _≤_, _<_}
-use mathlib.Core.Path.{_≡_, sym, _∙_, subst}
+use Prim.Native.Nat.{ℕ, _≤_, _<_}
+use mathlib.Core.Path.{_≡_}
 use mathlib.Core.Bool.{Bool, true, false, not, _&&_, _||_, false≢true}
 use native.Mathlib.Omega.{arith}
-use borrow.Author.Tests.{ltb-false, lt-ltb, le-ltb, leb-true, eq-eqb, eqb-true, not-false}
-use lib.Dec.{T, ltb, eqb}
-use lib.Ieee.{binary32, nanBits, ofBits}
-use lib.Ieee.Bits.{nanBits-above}
+use borrow.Author.Tests.{ltb-false, lt-ltb, eq-eqb, eqb-true, not-false}
+use lib.Dec.{ltb, eqb}
+use lib.Ieee.{binary32, ofBits}
 use Rattle.laws.proofs.Bools.{or-neither}
 use Rattle.rows.specs.Rows.{firstRow}
 use Rattle.rows.proofs.RowsLaws.{passed}
 use Rattle.line.specs.Fields.{PERCENT, LOST}
-use Rattle.line.specs.Percent.{accepted}
+use Rattle.percent.specs.Percent.{accepted}
 use Rattle.line.specs.Refused.{fieldRows, kindRow, dateRow, productRow, meanRow, readingRow}
 use Rattle.line.specs.declared.fields.Fields.{Fields}
 use Rattle.line.specs.declared.fields.Tagged.{Tagged}
-use Rattle.line.proofs.PercentLaws.{accepted-pattern}
 
 -- none of rows 3 to 7 fits
 pub record Clean (f : Fields) : Type 0 where
@@ -65,12 +63,3 @@ good-reading t e =
   where
     above : (n : ℕ) → (n ≡ 0 → ⊥) → 0 < n
     above n h = omega arith
-
--- an accepted percent's pattern is at most that of 100.0, so it is no NaN's
-pub percent-bits : (b : ℕ) → b < 2 ^ 32 → accepted (ofBits binary32 b) ≡ true → b ≤ 0x42c80000
-percent-bits b B e = leb-true b 0x42c80000 (sym (accepted-pattern b B) ∙ e)
-
-pub not-nan : (b : ℕ) → b ≤ 0x42c80000 → T (not (nanBits binary32 b))
-not-nan b h =
-    let low : ltb 2139095040 (b % 2147483648) ≡ false = le-ltb 2139095040 (b % 2147483648) (omega arith) in
-    subst (λ (t : Bool). T (not t)) (sym (nanBits-above binary32 b ∙ low)) tt

@@ -8,8 +8,7 @@ use borrow.Author.Tests.{lt-ltb, le-ltb}
 use lib.ListN.{length, drop}
 use Rattle.rows.specs.Rows.{firstRow, distinct, givenBy, Answers}
 use Rattle.rows.proofs.RowsLaws.{first-given}
-use Rattle.line.specs.Fields.{fieldsOf}
-use Rattle.line.specs.Digits.{lineLength}
+use Rattle.line.specs.Fields.{lineLength, fieldsOf}
 use Rattle.line.specs.Refused.{fieldRows, SHORT}
 use Rattle.line.specs.Write.{lineOf, writeRows, writtenBy, bufferBy, writtenOf, bufferAfter, writtenRow, BufferKept}
 use Rattle.line.specs.declared.record.Record.{Record}

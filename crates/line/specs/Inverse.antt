@@ -3,7 +3,7 @@ use Prim.Native.Nat.{ℕ, _≤_}
 use mathlib.Core.Path.{_≡_}
 use mathlib.Core.List.{List}
 use lib.ListN.{length, take}
-use Rattle.line.specs.Digits.{lineLength}
+use Rattle.line.specs.Fields.{lineLength}
 use Rattle.line.specs.Read.{readOf}
 use Rattle.line.specs.Write.{writtenOf, bufferAfter}
 use Rattle.line.specs.declared.record.Record.{Record}

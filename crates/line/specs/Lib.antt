@@ -1,6 +1,5 @@
 -- What a line is, which lines are refused, and what reading and writing give: document 01, "The line" and "Refused".
-pub mod Digits
-pub mod Percent
+pub mod Amount
 pub mod Fields
 pub mod Refused
 pub mod Read

@@ -5,8 +5,8 @@ use mathlib.Core.List.{List, _∷_}
 use lib.Dec.{eqb}
 use lib.ListN.{length}
 use Rattle.rows.specs.Rows.{Row, firstRow, Given, no-row, a-row}
-use Rattle.line.specs.Digits.{lineLength, areDigits, bytesOf}
-use Rattle.line.specs.Fields.{fieldsIn, recordOf}
+use Rattle.digits.specs.Digits.{areDigits, bytesOf}
+use Rattle.line.specs.Fields.{lineLength, fieldsIn, recordOf}
 use Rattle.line.specs.Refused.{fieldRows, LENGTH, DIGIT}
 use Rattle.line.specs.declared.fields.Fields.{Fields}
 use Rattle.line.specs.declared.record.Record.{Record}

@@ -5,9 +5,9 @@ use mathlib.Core.Bool.{Bool, not, _&&_, _||_}
 use mathlib.Core.List.{List, [], _∷_}
 use lib.Dec.{ltb, eqb}
 use lib.Ieee.{binary32, ofBits}
+use Rattle.percent.specs.Percent.{accepted}
 use Rattle.rows.specs.Rows.{Row}
 use Rattle.line.specs.Fields.{PERCENT, LOST}
-use Rattle.line.specs.Percent.{accepted}
 use Rattle.line.specs.declared.fields.Fields.{Fields}
 use Rattle.line.specs.declared.fields.Tagged.{Tagged}
 use Rattle.line.specs.declared.record.Means.{Means}

@@ -5,8 +5,8 @@ use mathlib.Core.List.{List, _∷_, _++_}
 use lib.Dec.{ltb}
 use lib.ListN.{length, drop}
 use Rattle.rows.specs.Rows.{Row, firstRow, Given, no-row, a-row}
-use Rattle.line.specs.Digits.{lineLength, digitsOf}
-use Rattle.line.specs.Fields.{bytesIn, fieldsOf}
+use Rattle.digits.specs.Digits.{digitsOf}
+use Rattle.line.specs.Fields.{lineLength, bytesIn, fieldsOf}
 use Rattle.line.specs.Refused.{fieldRows, SHORT}
 use Rattle.line.specs.declared.record.Record.{Record}
 use Rattle.line.specs.declared.record.Written.{Written}

@@ -4,7 +4,6 @@ use crate::fields::Fields;
 use crate::fields::LOST;
 use crate::fields::PERCENT;
 use crate::fields::Tagged;
-use crate::percent::HUNDRED;
 use crate::record::MAINTENANCE;
 use crate::record::Means;
 use crate::record::STUDY;
@@ -13,6 +12,7 @@ use crate::refusal::KIND;
 use crate::refusal::MEAN;
 use crate::refusal::PRODUCT;
 use crate::refusal::READING;
+use percent::is_accepted;
 use rows::first_of;
 ghost use mathlib.Core.Path.{_≡_};
 ghost use Rattle.rows.specs.Rows.{firstRow};
@@ -59,7 +59,7 @@ fn reading_row(t: Tagged) -> bool
 {
     (LOST < t.tag)
         | ((PERCENT < t.tag) & (t.bits != 0))
-        | ((t.tag == PERCENT) & !(t.bits <= HUNDRED))
+        | ((t.tag == PERCENT) & !is_accepted(t.bits))
 }
 
 // The first of rows 3 to 7 that fits the fields, or 0.

@@ -1,21 +1,28 @@
 // The fields of a line as numbers, in the order of document 01's table: from and to 34 bytes, and
 // from and to a record.
 
-use crate::digits::BYTES;
-use crate::percent::bits_of;
 use crate::record::Means;
 use crate::record::Reading;
 use crate::record::Readings;
 use crate::record::Record;
+use digits::byte_at;
+use digits::bytes2;
+use digits::bytes4;
+use digits::four_at;
+use digits::two_at;
+use percent::bits_of;
 ghost use mathlib.Core.Path.{_≡_};
 ghost use mathlib.Core.Bool.{false};
-ghost use Prim.Native.Nat.{_<_, _+_, _*_, _/_, _%_};
-ghost use lib.ListN.{set};
+ghost use Prim.Native.Nat.{_<_, _+_};
+ghost use lib.Seq.{sets};
+ghost use Rattle.digits.specs.Numbers.{numberBytes};
 ghost use Rattle.rows.specs.Rows.{firstRow};
-ghost use Rattle.line.specs.Digits.{lineBytes};
-ghost use Rattle.line.specs.Fields.{two, four, tagged, fieldsIn, bytesIn, readingOf, taggedOf, recordOf, fieldsOf};
+ghost use Rattle.line.specs.Fields.{lineBytes, bytes5, tagged, fieldsIn, bytesIn, readingOf, taggedOf, recordOf, fieldsOf};
 ghost use Rattle.line.specs.bounds.Types.{Typed, TypedReading};
 ghost use Rattle.line.specs.Refused.{readingRow, fieldRows};
+
+// How many bytes a line's digits write.
+pub const BYTES: usize = 34;
 
 // The tags of a reading.
 pub const PERCENT: u8 = 0;
@@ -43,81 +50,52 @@ pub struct Fields {
     pub salt: Tagged,
 }
 
-// Two bytes as a number, the high one first.
-fn two(high: u8, low: u8) -> u16
-    ensures { λ r. ⌜ r ≡ 256 * high + low ⌝ }
-{
-    (high as u16) << 8 | low as u16
-}
-
-// The lowest byte of a number.
-fn low_byte(n: u32) -> u8
-    ensures { λ r. ⌜ r ≡ n % 256 ⌝ }
-{
-    (n & 0xff) as u8
-}
-
 // Puts a number's two bytes at i.
 fn put2(mut b: [u8; BYTES], i: usize, n: u16) -> [u8; BYTES]
     requires { ⌜ i + 1 < lineBytes ⌝ }
-    ensures { λ r. ⌜ r ≡ set (set b i (n / 256)) (i + 1) (n % 256) ⌝ }
+    ensures { λ r. ⌜ r ≡ sets b i (numberBytes 2 n) ⌝ }
 {
-    b[i] = (n >> 8) as u8;
-    b[i + 1] = low_byte(n as u32);
+    let bytes = bytes2(n);
+    b[i] = bytes[0];
+    b[i + 1] = bytes[1];
     b
 }
 
 // Puts a tagged reading's five bytes at i.
 fn put5(mut b: [u8; BYTES], i: usize, t: Tagged) -> [u8; BYTES]
     requires { ⌜ i + 4 < lineBytes ⌝ }
-    ensures { λ r. ⌜ r ≡ set (set (set (set (set b i (t .tag)) (i + 1) (t .bits / 16777216)) (i + 2) (t .bits / 65536 % 256)) (i + 3) (t .bits / 256 % 256)) (i + 4) (t .bits % 256) ⌝ }
+    ensures { λ r. ⌜ r ≡ sets b i (bytes5 t) ⌝ }
 {
-    let n = t.bits;
+    let bytes = bytes4(t.bits);
     b[i] = t.tag;
-    b[i + 1] = (n >> 24) as u8;
-    b[i + 2] = low_byte(n >> 16);
-    b[i + 3] = low_byte(n >> 8);
-    b[i + 4] = low_byte(n);
+    b[i + 1] = bytes[0];
+    b[i + 2] = bytes[1];
+    b[i + 3] = bytes[2];
+    b[i + 4] = bytes[3];
     b
 }
 
-// The number that the two bytes from i on make.
-fn two_at(b: [u8; BYTES], i: usize) -> u16
-    requires { ⌜ i + 1 < lineBytes ⌝ }
-    ensures { λ r. ⌜ r ≡ two b i ⌝ }
-{
-    two(b[i], b[i + 1])
-}
-
-// The number that the four bytes from i on make.
-fn four_at(b: [u8; BYTES], i: usize) -> u32
-    requires { ⌜ i + 3 < lineBytes ⌝ }
-    ensures { λ r. ⌜ r ≡ four b i ⌝ }
-{
-    (two_at(b, i) as u32) << 16 | two_at(b, i + 2) as u32
-}
-
 // The tag at i and the number that the four bytes after it make.
-fn tagged_at(b: [u8; BYTES], i: usize) -> Tagged
-    requires { ⌜ i + 4 < lineBytes ⌝ }
-    ensures { λ r. ⌜ r ≡ tagged b i ⌝ }
+fn tagged_at(b: &[u8], i: u32) -> Tagged
+    requires { ⌜ i < lineBytes ⌝ }
+    ensures { λ r. ⌜ r ≡ tagged (now (b .entry)) i ⌝ }
 {
     Tagged {
-        tag: b[i],
+        tag: byte_at(b, i as usize),
         bits: four_at(b, i + 1),
     }
 }
 
 // The fields that 34 bytes hold.
-pub fn fields_in(b: [u8; BYTES]) -> Fields
-    ensures { λ r. ⌜ r ≡ fieldsIn b ⌝ }
+pub fn fields_in(b: &[u8]) -> Fields
+    ensures { λ r. ⌜ r ≡ fieldsIn (now (b .entry)) ⌝ }
 {
     Fields {
-        kind: b[0],
+        kind: byte_at(b, 0),
         year: two_at(b, 1),
-        month: b[3],
-        days: b[4],
-        product: b[5],
+        month: byte_at(b, 3),
+        days: byte_at(b, 4),
+        product: byte_at(b, 5),
         means: Means {
             moisture: two_at(b, 6),
             protein: two_at(b, 8),

@@ -1,30 +1,24 @@
 // A line of a check sample: 68 digits read to a record, and a record written back as a line.
 
-mod digits;
+mod amount;
 mod field_rows;
 mod fields;
-mod percent;
 pub mod record;
 pub mod refusal;
 
-pub use digits::DIGITS;
-pub use digits::Hex;
-use digits::are_digits;
-pub use digits::byte_in;
-use digits::bytes_of;
-pub use digits::high_digit;
-pub use digits::low_digit;
-use digits::put;
+use amount::amount_of;
+use digits::read_digits;
+use digits::write_digits;
 pub use field_rows::LEAST_BEEF_FAT;
 pub use field_rows::LEAST_PROTEIN;
 pub use field_rows::MOST;
 use field_rows::first_row;
 pub use field_rows::product_row;
+use fields::BYTES;
 use fields::bytes_in;
 use fields::fields_in;
 use fields::fields_of;
 use fields::record_of;
-use percent::amount_of;
 use record::Amount;
 use record::Read;
 use record::Reading;
@@ -35,10 +29,13 @@ use refusal::LENGTH;
 use refusal::SHORT;
 ghost use mathlib.Core.Path.{_≡_};
 ghost use Rattle.rows.specs.Rows.{Answers};
+ghost use Rattle.line.specs.Amount.{amountOf};
 ghost use Rattle.line.specs.Inverse.{WritesBack, ReadsBack};
-ghost use Rattle.line.specs.Percent.{amountOf};
 ghost use Rattle.line.specs.Read.{readOf, lineRows, readRow};
 ghost use Rattle.line.specs.Write.{writtenOf, bufferAfter, writeRows, writtenRow, BufferKept};
+
+// How many digits a line has.
+pub const DIGITS: usize = 68;
 
 // The record that a line holds, or the number of the first row that refuses it.
 // `whole`: the answer is the definition's. `back`: writing the record returns the line.
@@ -51,10 +48,11 @@ pub fn read(line: &[u8]) -> Read
     if line.len() != DIGITS {
         return Read::Refused(LENGTH);
     }
-    if !are_digits(line) {
+    let mut bytes = [0u8; BYTES];
+    if !read_digits(line, &mut bytes) {
         return Read::Refused(DIGIT);
     }
-    let fields = fields_in(bytes_of(line));
+    let fields = fields_in(&bytes);
     let row = first_row(fields);
     if row != 0 {
         return Read::Refused(row);
@@ -81,7 +79,8 @@ pub fn write(record: Record, buffer: &mut [u8]) -> Written
     if row != 0 {
         return Written::Refused(row);
     }
-    put(bytes_in(fields), buffer);
+    let bytes = bytes_in(fields);
+    write_digits(&bytes, buffer);
     Written::Done
 }
 

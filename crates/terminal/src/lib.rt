@@ -1,13 +1,15 @@
-// Answers the lines of standard input on standard output, and then gives the status. Where a read
-// or a write fails it stops.
+// Gives the lines of standard input to a unit and answers them on standard output, and then gives the
+// status. Where a read or a write fails it stops.
 use console::Console;
 use console::feed;
 use console::finish;
 use console::new_console;
 use libc::STDIN_FILENO;
 use libc::STDOUT_FILENO;
+use unit::Unit;
 ghost use Prim.Native.Nat.{_≤_};
 ghost use lib.ListN.{length};
+ghost use Rattle.unit.specs.Reached.{Reached as ReachedUnit};
 ghost use Rattle.console.specs.bounds.Room.{FINAL};
 ghost use Rattle.console.specs.Stands.{Reached};
 
@@ -23,11 +25,10 @@ struct Turn {
 }
 
 // Feeds a piece of the input, and writes the answers whenever the output has no more room.
-fn answer(start: Console, piece: &[u8], output: &mut [u8]) -> Turn
-    requires { ⌜ Reached start × (FINAL ≤ length (now output)) ⌝ }
+fn answer(mut console: Console, piece: &[u8], output: &mut [u8]) -> Turn
+    requires { ⌜ Reached console × (FINAL ≤ length (now output)) ⌝ }
     ensures { λ r. ⌜ Reached (r .console) ⌝ }
 {
-    let mut console = start;
     let mut at = 0;
     let mut good = true;
     while good & (at < piece.len()) {
@@ -64,10 +65,9 @@ fn take_turn(console: Console, input: &mut [u8], output: &mut [u8]) -> Turn
 // Answers the whole input and then gives the status, if no read or write failed. A proved loop has
 // to end, and nothing says that the input does: the loop counts its turns down, from a number that
 // no run uses up.
-fn converse(input: &mut [u8], output: &mut [u8])
-    requires { ⌜ FINAL ≤ length (now output) ⌝ }
+fn converse(mut console: Console, input: &mut [u8], output: &mut [u8])
+    requires { ⌜ Reached console × (FINAL ≤ length (now output)) ⌝ }
 {
-    let mut console = new_console();
     let mut more = true;
     let mut good = true;
     let mut turns = u64::MAX;
@@ -84,11 +84,13 @@ fn converse(input: &mut [u8], output: &mut [u8])
     }
 }
 
-// Answers the lines of standard input on standard output, and then gives the status. It takes, lends
-// and hands back nothing. No contract can speak of what is read and written: that each piece is fed
-// and what is fed is written is read off the code above.
-pub fn run() {
+// Gives the lines of standard input to a unit and answers them on standard output, and then gives the
+// status. It lends and hands back nothing. No contract can speak of what is read and written: that
+// each piece is fed and what is fed is written is read off the code above.
+pub fn run(unit: Unit)
+    requires { ⌜ ReachedUnit unit ⌝ }
+{
     let mut input = [0u8; BUFFER];
     let mut output = [0u8; BUFFER];
-    converse(&mut input, &mut output);
+    converse(new_console(unit), &mut input, &mut output);
 }

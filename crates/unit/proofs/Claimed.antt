@@ -4,61 +4,87 @@ use mathlib.Core.Path.{_≡_, refl, sym, ap, _∙_, subst}
 use mathlib.Core.Bool.{Bool, true, false, cond, _||_, or-true, or-false, or-assoc}
 use mathlib.Core.Logic.{_⊎_, inl, inr, ⊎-elim}
 use mathlib.Core.List.{List, [], _∷_, _++_, append-nil, append-assoc}
+use native.Mathlib.Omega.{arith}
 use lib.Seq.{append-snoc}
+use Rattle.difference.specs.declared.constants.Constants.{Constants}
 use Rattle.grounds.proofs.Claim.{Shows, claim}
 use Rattle.laws.proofs.Bools.{or-either}
+use Rattle.laws.proofs.EachLaws.{any-some}
 use Rattle.laws.proofs.Gathered.{with-one-more}
-use Rattle.unit.specs.Claim.{Step, historyFrom, history, isAdmission, sinceFrom, since, CHARTS, limit, entriesOf, shown, ClaimOf}
-use Rattle.unit.specs.Reached.{after, replay}
+use Rattle.unit.specs.Category.{Category}
+use Rattle.unit.specs.Charts.{chartsIn, limit, isOver}
+use Rattle.unit.specs.Claim.{Step, historyIn, isAdmission, sinceFrom, since, entriesOf, shown, ClaimIn, ClaimOf}
+use Rattle.unit.specs.Food.{foodChemistry}
+use Rattle.unit.specs.Reached.{afterIn, replay}
 use Rattle.unit.specs.Since.{admits, EndsAdmitted, Since, SinceIs, YearsNeverFall}
-use Rattle.unit.specs.Status.{reportsFor, sixteen, maskOf, reportsOf, statusOf}
-use Rattle.unit.specs.Stretch.{anyOver}
-use Rattle.unit.specs.Take.{newUnit, takenOf}
+use Rattle.unit.specs.Status.{reportsOf, statusBy, statusOf}
+use Rattle.unit.specs.Stretch.{noSamples, anyOver, chartAt}
+use Rattle.unit.specs.Take.{noMisses, newUnit, takenIn}
 use Rattle.unit.specs.declared.Unit as U
 use Rattle.unit.specs.declared.report.ChartReport.{ChartReport}
-use Rattle.unit.specs.declared.shown.Reports.{Reports}
+use Rattle.unit.proofs.GoodLaws.{food-sound}
 use Rattle.unit.proofs.Kept.{Kept, fresh, step-kept, next}
-use Rattle.unit.proofs.View.{view, low, overAt, some-over, bit-of, shown-at}
-
--- ---- over the whole list
-
-kept-after : (u : U.Unit) (h : List Step) (ls : List (List ℕ)) → Kept u h → Kept (after u ls) (sinceFrom h (historyFrom u ls))
-kept-after u h [] K = K
-kept-after u h (l ∷ ls) K = kept-after (takenOf u l .unit) (next h l (takenOf u l .event)) ls (step-kept u h l K)
-
-kept-list : (ls : List (List ℕ)) → Kept (replay ls) (since (history ls))
-kept-list ls = kept-after newUnit [] ls (fresh newUnit refl refl)
+use Rattle.unit.proofs.Sound.{Sound}
+use Rattle.unit.proofs.MaskLaws.{bit-of}
+use Rattle.unit.proofs.View.{view, low, reports-room, shown-at}
 
 -- ---- what the status shows
 
-module _ (u : U.Unit) (h : List Step) (K : Kept u h) where
-  over-is : (c : ℕ) → c < CHARTS → shown h (statusOf u) .over c ≡ overAt (u .stretch) c
-  unfolding statusOf
-  over-is c k = bit-of (reportsOf (u .stretch)) c k ∙ ap (λ (r : ChartReport). r .over) (shown-at (u .stretch) c k)
+module _ (g : Category) (sound : Sound g) (u : U.Unit) (h : List Step) (K : Kept g u h) where
+  abbrev c : Constants
+  c = g .constants
 
-  shows : Shows CHARTS limit (view (u .stretch)) (u .misses .opened) (shown h (statusOf u))
-  unfolding statusOf
+  abbrev overAt : ℕ → Bool
+  overAt n = isOver c n (chartAt (u .stretch .charts) n)
+
+  over-is : (n : ℕ) → n < chartsIn c → shown h (statusBy c u) .over n ≡ overAt n
+  unfolding statusBy
+  over-is n k =
+      bit-of (reportsOf c (u .stretch)) n (omega (arith, reports-room c (sound .few) (u .stretch), sound .few))
+      ∙ ap (λ (r : ChartReport). r .over) (shown-at c (sound .few) (u .stretch) n k)
+
+  shows : Shows (chartsIn c) (limit c) (view (u .stretch)) (u .misses .opened) (shown h (statusBy c u))
+  unfolding statusBy
   shows = record {
     opened = (
-      λ o. ⊎-elim (λ e. inl e) (λ e. let p = some-over (u .stretch) .0 e in inr (p .0, p .1, over-is (p .0) (p .1) ∙ p .2)) (or-either (u .misses .opened) (anyOver (u .stretch)) (sym (K .opened) ∙ o)),
-      ⊎-elim (λ e. K .opened ∙ ap (λ (b : Bool). b || anyOver (u .stretch)) e)
-          (λ p. K .opened ∙ ap (λ (b : Bool). u .misses .opened || b) (some-over (u .stretch) .1 (p .0, p .1, sym (over-is (p .0) (p .1)) ∙ p .2)) ∙ or-true (u .misses .opened)),
+      λ o. ⊎-elim (λ e. inl e) (λ e. let p = any-some (chartsIn c) overAt .0 e in inr (p .0, p .1, over-is (p .0) (p .1) ∙ p .2)) (or-either (u .misses .opened) (anyOver c (u .stretch .charts)) (sym (K .opened) ∙ o)),
+      ⊎-elim (λ e. K .opened ∙ ap (λ (b : Bool). b || anyOver c (u .stretch .charts)) e)
+          (λ p. K .opened ∙ ap (λ (b : Bool). u .misses .opened || b) (any-some (chartsIn c) overAt .1 (p .0, p .1, sym (over-is (p .0) (p .1)) ∙ p .2)) ∙ or-true (u .misses .opened)),
     );
     misses = refl;
     over-is = over-is;
-    first = λ c k _. ap (λ (r : ChartReport). r .first) (shown-at (u .stretch) c k);
-    last = λ c k _. ap (λ (r : ChartReport). r .last) (shown-at (u .stretch) c k);
-    value = λ c k _. ap (λ (r : ChartReport). r .value) (shown-at (u .stretch) c k);
+    first = λ n k _. ap (λ (r : ChartReport). r .first) (shown-at c (sound .few) (u .stretch) n k);
+    last = λ n k _. ap (λ (r : ChartReport). r .last) (shown-at c (sound .few) (u .stretch) n k);
+    value = λ n k _. ap (λ (r : ChartReport). r .value) (shown-at c (sound .few) (u .stretch) n k);
   }
 
+  -- the claim, of a unit of any category
+  claim-in : ClaimIn g h (statusBy c u)
+  claim-in =
+      claim (chartsIn c) (limit c) (low c) (entriesOf g h) (view (u .stretch)) (K .charted) (u .misses .last) (u .misses .opened) (K .missed-kept)
+      (shown h (statusBy c u)) shows
+
+-- ---- over the whole list
+
+module _ (g : Category) (sound : Sound g) where
+  kept-after : (u : U.Unit) (h : List Step) (ls : List (List ℕ)) → Kept g u h → Kept g (afterIn g u ls) (sinceFrom h (historyIn g u ls))
+  kept-after u h [] K = K
+  kept-after u h (l ∷ ls) K = kept-after (takenIn g u l .unit) (next h l (takenIn g u l .event)) ls (step-kept g sound u h l K)
+
+  -- from a unit that has no sample and no miss, whatever its stage
+  kept-list : (u : U.Unit) → u .stretch ≡ noSamples → u .misses ≡ noMisses → (ls : List (List ℕ)) → Kept g (afterIn g u ls) (since (historyIn g u ls))
+  kept-list u s m ls = kept-after u [] ls (fresh g u s m)
+
+  -- the claim of every list given to such a unit, for any category
+  pub claim-list : (u : U.Unit) → u .stretch ≡ noSamples → u .misses ≡ noMisses → (ls : List (List ℕ))
+      → ClaimIn g (since (historyIn g u ls)) (statusBy (g .constants) (afterIn g u ls))
+  claim-list u s m ls = claim-in g sound (afterIn g u ls) (since (historyIn g u ls)) (kept-list u s m ls)
+
 pub claim-holds : (ls : List (List ℕ)) (u : U.Unit) → replay ls ≡ u → ClaimOf ls (statusOf u)
-claim-holds ls u e =
-    let h = since (history ls) in
-    let K = subst (λ (v : U.Unit). Kept v h) e (kept-list ls) in
-    claim CHARTS limit low (entriesOf h) (view (u .stretch)) (K .charted) (u .misses .last) (u .misses .opened) (K .missed-kept) (shown h (statusOf u)) (shows u h K)
+claim-holds ls u e = subst (λ (v : U.Unit). ClaimOf ls (statusOf v)) e (claim-list foodChemistry food-sound newUnit refl refl ls)
 
 pub years-never-fall : YearsNeverFall
-years-never-fall ls = kept-list ls .ordered .order
+years-never-fall ls = kept-list foodChemistry food-sound newUnit refl refl ls .ordered .order
 
 -- ---- what `since` is
 
@@ -84,12 +110,3 @@ since-from before kept (x ∷ h) s n = go (since-from (before ++ kept ++ x ∷ [
 
 pub since-is : (h : List Step) → SinceIs h
 since-is h = since-from [] [] h (inl refl) refl
-
--- ---- the report from its parts
-
-pub reported : (u : U.Unit) {m p f s : Reports} {mask : ℕ} {charts : List ChartReport} → m ≡ reportsFor (u .stretch .samples) (u .stretch .moisture)
-    → p ≡ reportsFor (u .stretch .samples) (u .stretch .protein) → f ≡ reportsFor (u .stretch .samples) (u .stretch .fat)
-    → s ≡ reportsFor (u .stretch .samples) (u .stretch .salt) → mask ≡ maskOf (sixteen m p f s) → charts ≡ sixteen m p f s
-    → record { stage = u .stage; samples = u .stretch .samples; mask = mask; misses = u .misses .opened; charts = charts } ≡ statusOf u
-unfolding statusOf
-reported u em ep ef es k r = rw (k, r, em, ep, ef, es)

@@ -2,98 +2,84 @@
 use Prim.Native.Nat.{ℕ, zero, suc, _≤_, _<_}
 use mathlib.Core.Path.{_≡_, refl, ap, _∙_, subst}
 use mathlib.Core.Bool.{Bool, true, false}
-use mathlib.Core.Logic.{_⊎_, ⊎-elim}
 use mathlib.Core.List.{List, [], _∷_, _++_}
 use native.Mathlib.Omega.{arith}
 use borrow.Author.Tests.{eqb-false}
 use lib.Dec.{eqb, lit≤, lit<}
+use Rattle.difference.specs.Contribution.{food}
+use Rattle.difference.specs.declared.constants.Constants.{Constants}
 use Rattle.grounds.specs.Earlier.{again}
-use Rattle.line.specs.Read.{readOf}
 use Rattle.rows.specs.Rows.{firstRow}
-use Rattle.line.specs.Refused.{STUDY, MAINTENANCE}
-use Rattle.line.specs.declared.record.Record.{Record}
-use Rattle.line.specs.declared.record.Read.{Read}
-use Rattle.line.specs.declared.record.Read.the-variants.{Whole, Refused as Unread}
-use Rattle.unit.specs.bounds.Numbers.{Bounded, LAST-MONTH, SetBounded, StretchBounded}
-use Rattle.unit.specs.bounds.Records.{GoodRecord}
-use Rattle.unit.specs.Reached.{after, Reached}
-use Rattle.unit.specs.Sample.{monthOf, missed, differencesOf, contributedBy}
-use Rattle.unit.specs.Set.{emptySet, enteredOf, passesSet}
-use Rattle.unit.specs.Study.{SET}
+use Rattle.unit.specs.Category.{Category}
+use Rattle.unit.specs.Food.{foodChemistry}
+use Rattle.unit.specs.Reached.{afterIn, after, Reached}
+use Rattle.unit.specs.Set.{enteredOf, passesSet}
+use Rattle.study.specs.Study.{SET}
 use Rattle.unit.specs.Stretch.{anyOver, sampledOf}
-use Rattle.unit.specs.Take.{newUnit, unitRows, missedBy, sampleBy, judgedBy, studyBy, acceptedBy, takenByRow, takenRecord, takenRead, takenOf}
+use Rattle.unit.specs.Take.{newUnit, missedBy, sampleBy, judgedBy, studyBy, acceptedBy, takenByRow, rowsIn, takenIn, takenOf}
+use Rattle.unit.specs.bounds.Numbers.{Bounded, GoodSeen, LAST-MONTH, SetBounded, StretchBounded}
 use Rattle.unit.specs.declared.Unit as U
+use Rattle.unit.specs.declared.seen.Seen.{Seen}
 use Rattle.unit.specs.declared.set.Set.{Set}
 use Rattle.unit.specs.declared.stretch.Stretch.{Stretch}
-use Rattle.unit.proofs.GoodLaws.{good-record}
-use Rattle.unit.proofs.SumsLaws as Sums
+use Rattle.unit.proofs.GoodLaws.{food-sound}
 use Rattle.unit.proofs.Room.{sampled-bounded, no-samples-bounded}
-use Rattle.unit.proofs.Taking.{Open, is-open, room, capped, each-moderate, entered-bounded}
+use Rattle.unit.proofs.Sound.{Sound, clear}
+use Rattle.unit.proofs.SumsLaws.{empty-bounded, entered-bounded}
+use Rattle.unit.proofs.Taking.{Open, is-open, room}
 
 -- ---- the bounds, kept by each case
 
-empty-bounded : SetBounded emptySet
-empty-bounded = record { moisture = Sums.none-bounded; protein = Sums.none-bounded; fat = Sums.none-bounded; salt = Sums.none-bounded }
+pub bounded-new : (c : Constants) → Bounded c newUnit
+bounded-new c = record { lines = lit< tt; sums = empty-bounded; stretch = no-samples-bounded c; miss = lit≤ tt }
 
-pub bounded-new : Bounded newUnit
-bounded-new = record { lines = lit< tt; sums = empty-bounded; stretch = no-samples-bounded; miss = lit≤ tt }
+missed-kept : (b : Bool) (c : Constants) (u : U.Unit) (m : ℕ) → m ≤ LAST-MONTH → Bounded c u → Bounded c (missedBy b u m .unit)
+missed-kept true c u m h k = record { lines = k .lines; sums = k .sums; stretch = k .stretch; miss = h }
+missed-kept false c u m h k = record { lines = k .lines; sums = k .sums; stretch = k .stretch; miss = h }
 
-month-le : (r : Record) → GoodRecord r → monthOf r ≤ LAST-MONTH
-month-le r g = omega (arith, g .late, g .december)
+sample-kept : (b : Bool) (c : Constants) (u : U.Unit) (m : ℕ) (s : Stretch) → StretchBounded c s → Bounded c u → Bounded c (sampleBy b u m s .unit)
+sample-kept true c u m s h k = record { lines = k .lines; sums = k .sums; stretch = h; miss = k .miss }
+sample-kept false c u m s h k = record { lines = k .lines; sums = k .sums; stretch = h; miss = k .miss }
 
-missed-kept : (b : Bool) (u : U.Unit) (m : ℕ) → m ≤ LAST-MONTH → Bounded u → Bounded (missedBy b u m .unit)
-missed-kept true u m h k = record { lines = k .lines; sums = k .sums; stretch = k .stretch; miss = h }
-missed-kept false u m h k = record { lines = k .lines; sums = k .sums; stretch = k .stretch; miss = h }
+judged-kept : (b : Bool) (c : Constants) (u : U.Unit) (m : ℕ) → Bounded c u → Bounded c (judgedBy b u m .unit)
+judged-kept true c u m k = record { lines = lit< tt; sums = empty-bounded; stretch = no-samples-bounded c; miss = lit≤ tt }
+judged-kept false c u m k = record { lines = lit< tt; sums = empty-bounded; stretch = k .stretch; miss = k .miss }
 
-sample-kept : (b : Bool) (u : U.Unit) (m : ℕ) (s : Stretch) → StretchBounded s → Bounded u → Bounded (sampleBy b u m s .unit)
-sample-kept true u m s h k = record { lines = k .lines; sums = k .sums; stretch = h; miss = k .miss }
-sample-kept false u m s h k = record { lines = k .lines; sums = k .sums; stretch = h; miss = k .miss }
-
-judged-kept : (b : Bool) (u : U.Unit) (m : ℕ) → Bounded u → Bounded (judgedBy b u m .unit)
-judged-kept true u m k = record { lines = lit< tt; sums = empty-bounded; stretch = no-samples-bounded; miss = lit≤ tt }
-judged-kept false u m k = record { lines = lit< tt; sums = empty-bounded; stretch = k .stretch; miss = k .miss }
-
-study-kept : (b : Bool) (u : U.Unit) (m : ℕ) (s : Set) → eqb (s .lines) SET ≡ b → s .lines ≤ SET → SetBounded s → Bounded u → Bounded (studyBy b u m s .unit)
-study-kept true u m s e l h k = judged-kept (passesSet s) u m k
-study-kept false u m s e l h k = record { lines = less (s .lines) l (eqb-false (s .lines) SET e); sums = h; stretch = k .stretch; miss = k .miss }
+study-kept : (b : Bool) (c : Constants) (u : U.Unit) (m : ℕ) (s : Set) → eqb (s .lines) SET ≡ b → s .lines ≤ SET → SetBounded s → Bounded c u → Bounded c (studyBy b c u m s .unit)
+study-kept true c u m s e l h k = judged-kept (passesSet c s) c u m k
+study-kept false c u m s e l h k = record { lines = less (s .lines) l (eqb-false (s .lines) SET e); sums = h; stretch = k .stretch; miss = k .miss }
   where
     less : (n : ℕ) → n ≤ SET → (n ≡ SET → ⊥) → n < SET
     less n a b = omega arith
 
-accepted-kept : (a b : Bool) (u : U.Unit) (r : Record) → eqb (r .kind) STUDY ≡ a → missed r ≡ b → Open u r → GoodRecord r → Bounded u → Bounded (acceptedBy a b u r .unit)
-accepted-kept true b u r p q o g k =
-    let s = enteredOf (u .set) (differencesOf r) in
-    study-kept (eqb (s .lines) SET) u (monthOf r) s refl (k .lines) (entered-bounded (u .set) (differencesOf r) (k .sums) (capped r)) k
-accepted-kept false true u r p q o g k = missed-kept (again (u .misses .last) (monthOf r)) u (monthOf r) (month-le r g) k
-accepted-kept false false u r p q o g k =
-    let s = sampledOf (u .stretch) (r .year) (contributedBy r) in
-    sample-kept (anyOver s) u (monthOf r) s (sampled-bounded (u .stretch) (r .year) (contributedBy r) (k .stretch) (room u r o kind q) (each-moderate r)) k
-  where
-    kind : r .kind ≡ MAINTENANCE
-    kind = ⊎-elim (λ h. h) (λ h. absurd (eqb-false (r .kind) STUDY p h)) (g .kind)
+module _ (g : Category) (sound : Sound g) (u : U.Unit) (k : Bounded (g .constants) u) where
+  accepted-kept : (a b : Bool) (x : Seen) → x .study ≡ a → x .missed ≡ b → Open u x → GoodSeen x → Bounded (g .constants) (acceptedBy a b (g .constants) u x .unit)
+  accepted-kept true b x p q o h =
+      let s = enteredOf (g .constants) (u .set) (x .differences) in
+      study-kept (eqb (s .lines) SET) (g .constants) u (x .month) s refl (k .lines) (entered-bounded (g .constants) (sound .few) (u .set) (x .differences) (k .sums) (h .capped)) k
+  accepted-kept false true x p q o h = missed-kept (again (u .misses .last) (x .month)) (g .constants) u (x .month) (omega (arith, h .december, h .late)) k
+  accepted-kept false false x p q o h =
+      let s = sampledOf (g .constants) (u .stretch) (x .year) (x .differences) in
+      sample-kept (anyOver (g .constants) (s .charts)) (g .constants) u (x .month) s
+      (sampled-bounded (g .constants) (sound .few) (sound .fits) (u .stretch) (k .stretch) (x .year) (x .differences) (room u x o p q)) k
 
-record-kept : (u : U.Unit) (r : Record) → GoodRecord r → Bounded u → Bounded (takenRecord u r .unit)
-unfolding takenRecord
-record-kept u r g k = go (firstRow (unitRows u r)) refl
-  where
-    go : (n : ℕ) → firstRow (unitRows u r) ≡ n → Bounded (takenByRow n u r .unit)
-    go zero e = accepted-kept (eqb (r .kind) STUDY) (missed r) u r refl refl (is-open u r e) g k
-    go (suc n) e = k
+  pub bounded-take : (line : List ℕ) → Bounded (g .constants) (takenIn g u line .unit)
+  unfolding takenIn
+  bounded-take line = go (firstRow (rowsIn g u line)) refl
+    where
+      go : (n : ℕ) → firstRow (rowsIn g u line) ≡ n → Bounded (g .constants) (takenByRow n (g .constants) u (g .seen line) .unit)
+      go zero e =
+          let w = clear g sound u line e in
+          let x = g .seen line in
+          accepted-kept (x .study) (x .missed) x refl refl (is-open u x (w .unit)) (sound .good line (w .reads))
+      go (suc n) e = k
 
-pub bounded-take : (u : U.Unit) (line : List ℕ) → Bounded u → Bounded (takenOf u line .unit)
-unfolding takenOf
-bounded-take u line k = go (readOf line) refl
-  where
-    go : (a : Read) → readOf line ≡ a → Bounded (takenRead u a .unit)
-    go (Unread n) e = k
-    go (Whole r) e = record-kept u r (good-record line r e) k
+bounded-after : (g : Category) → Sound g → (u : U.Unit) (ls : List (List ℕ)) → Bounded (g .constants) u → Bounded (g .constants) (afterIn g u ls)
+bounded-after g sound u [] k = k
+bounded-after g sound u (l ∷ ls) k = bounded-after g sound (takenIn g u l .unit) ls (bounded-take g sound u k l)
 
-bounded-after : (u : U.Unit) (ls : List (List ℕ)) → Bounded u → Bounded (after u ls)
-bounded-after u [] k = k
-bounded-after u (l ∷ ls) k = bounded-after (takenOf u l .unit) ls (bounded-take u l k)
-
-pub reached-bounded : (u : U.Unit) → Reached u → Bounded u
-reached-bounded u r = subst Bounded (r .1) (bounded-after newUnit (r .0) bounded-new)
+pub reached-bounded : (u : U.Unit) → Reached u → Bounded food u
+reached-bounded u r = subst (Bounded food) (r .1) (bounded-after foodChemistry food-sound newUnit (r .0) (bounded-new food))
 
 -- ---- lines one after the other
 

@@ -1,4 +1,4 @@
--- A refused line leaves the unit as it was, and its number is that of the first of rows 1 to 12 that fits. Assumes nothing.
+-- A refused line leaves the unit as it was, and its number is that of the first row that fits. Assumes nothing.
 use Prim.Native.Nat.{ℕ, zero, suc}
 use mathlib.Core.Path.{_≡_, refl, sym, ap, _∙_}
 use mathlib.Core.Bool.{Bool, true, false, cond, true≢false}
@@ -6,22 +6,19 @@ use mathlib.Core.List.{List}
 use borrow.Author.Tests.{eq-eqb}
 use lib.Dec.{eqb}
 use Rattle.grounds.specs.Earlier.{again}
-use Rattle.line.specs.Fields.{recordOf}
-use Rattle.line.specs.Refused.{STUDY}
-use Rattle.line.specs.Read.{fieldsAt, lineRows, readBy, readOf}
-use Rattle.line.specs.declared.record.Record.{Record}
-use Rattle.line.specs.declared.record.Read.{Read}
-use Rattle.line.specs.declared.record.Read.the-variants.{Whole, Refused as Unread}
-use Rattle.rows.specs.Rows.{firstRow, hasNumber, distinct, no-row, a-row, givenBy, Answers}
-use Rattle.rows.proofs.RowsLaws.{first-given, first-of-both, first-of-one}
+use Rattle.rows.specs.Rows.{firstRow, distinct, no-row, a-row, givenBy, Answers}
+use Rattle.rows.proofs.RowsLaws.{first-given}
+use Rattle.unit.specs.Category.{Category}
+use Rattle.unit.specs.Food.{foodChemistry}
 use Rattle.unit.specs.Event.{eventByte, numberByte, eventRow}
-use Rattle.unit.specs.Sample.{monthOf, missed, differencesOf, contributedBy}
 use Rattle.unit.specs.Set.{enteredOf, passesSet}
 use Rattle.unit.specs.Stretch.{sampledOf, anyOver}
-use Rattle.unit.specs.Study.{SET}
-use Rattle.unit.specs.Take.{unitRows, missedBy, sampleBy, judgedBy, studyBy, acceptedBy, takenByRow, takenRecord, takenRead, takenOf, takeRows}
+use Rattle.study.specs.Study.{SET}
+use Rattle.unit.specs.Take.{missedBy, sampleBy, judgedBy, studyBy, acceptedBy, takenByRow, rowsIn, takenIn, takenOf}
 use Rattle.unit.specs.declared.Unit as U
 use Rattle.unit.specs.declared.Taken.{Taken}
+use Rattle.difference.specs.declared.constants.Constants.{Constants}
+use Rattle.unit.specs.declared.seen.Seen.{Seen}
 use Rattle.unit.specs.declared.set.Set.{Set}
 use Rattle.unit.specs.declared.stretch.Stretch.{Stretch}
 
@@ -43,56 +40,38 @@ judged-leaves : (b : Bool) (u : U.Unit) (m : ℕ) → Leaves m (judgedBy b u m)
 judged-leaves true u m = record { event = refl; month-is = refl }
 judged-leaves false u m = record { event = refl; month-is = refl }
 
-study-leaves : (b : Bool) (u : U.Unit) (m : ℕ) (s : Set) → Leaves m (studyBy b u m s)
-study-leaves true u m s = judged-leaves (passesSet s) u m
-study-leaves false u m s = record { event = refl; month-is = refl }
+study-leaves : (b : Bool) (c : Constants) (u : U.Unit) (m : ℕ) (s : Set) → Leaves m (studyBy b c u m s)
+study-leaves true c u m s = judged-leaves (passesSet c s) u m
+study-leaves false c u m s = record { event = refl; month-is = refl }
 
-accepted-leaves : (a b : Bool) (u : U.Unit) (r : Record) → Leaves (monthOf r) (acceptedBy a b u r)
-accepted-leaves true b u r = let s = enteredOf (u .set) (differencesOf r) in study-leaves (eqb (s .lines) SET) u (monthOf r) s
-accepted-leaves false true u r = missed-leaves (again (u .misses .last) (monthOf r)) u (monthOf r)
-accepted-leaves false false u r = let s = sampledOf (u .stretch) (r .year) (contributedBy r) in sample-leaves (anyOver s) u (monthOf r) s
+accepted-leaves : (a b : Bool) (c : Constants) (u : U.Unit) (x : Seen) → Leaves (x .month) (acceptedBy a b c u x)
+accepted-leaves true b c u x = let s = enteredOf c (u .set) (x .differences) in study-leaves (eqb (s .lines) SET) c u (x .month) s
+accepted-leaves false true c u x = missed-leaves (again (u .misses .last) (x .month)) u (x .month)
+accepted-leaves false false c u x = let s = sampledOf c (u .stretch) (x .year) (x .differences) in sample-leaves (anyOver c (s .charts)) u (x .month) s
 
--- where none of rows 8 to 12 fits
-pub leaves : (u : U.Unit) (r : Record) → Leaves (monthOf r) (takenByRow 0 u r)
-leaves u r = accepted-leaves (eqb (r .kind) STUDY) (missed r) u r
+-- where no row fits
+pub leaves : (c : Constants) (u : U.Unit) (x : Seen) → Leaves (x .month) (takenByRow 0 c u x)
+leaves c u x = accepted-leaves (x .study) (x .missed) c u x
 
 -- ---- a refusal changes nothing
 
-keeps-by-row : (n : ℕ) (u : U.Unit) (r : Record) → eventByte (takenByRow n u r .event) ≡ 0 → takenByRow n u r .unit ≡ u
-keeps-by-row zero u r e = absurd (true≢false (sym (eq-eqb _ 0 e) ∙ leaves u r .event))
-keeps-by-row (suc n) u r e = refl
+keeps-by-row : (n : ℕ) (c : Constants) (u : U.Unit) (x : Seen) → eventByte (takenByRow n c u x .event) ≡ 0 → takenByRow n c u x .unit ≡ u
+keeps-by-row zero c u x e = absurd (true≢false (sym (eq-eqb _ 0 e) ∙ leaves c u x .event))
+keeps-by-row (suc n) c u x e = refl
+
+pub keeps-in : (g : Category) (u : U.Unit) (line : List ℕ) → eventByte (takenIn g u line .event) ≡ 0 → takenIn g u line .unit ≡ u
+unfolding takenIn
+keeps-in g u line e = keeps-by-row (firstRow (rowsIn g u line)) (g .constants) u (g .seen line) e
 
 pub refusal-keeps : (u : U.Unit) (line : List ℕ) → eventByte (takenOf u line .event) ≡ 0 → takenOf u line .unit ≡ u
-unfolding takenOf takenRecord
-refusal-keeps u line = go (readOf line)
-  where
-    go : (a : Read) → eventByte (takenRead u a .event) ≡ 0 → takenRead u a .unit ≡ u
-    go (Unread n) e = refl
-    go (Whole r) e = keeps-by-row (firstRow (unitRows u r)) u r e
+refusal-keeps u line = keeps-in foodChemistry u line
 
 -- ---- its number is the first row's
 
-row-by : (n : ℕ) (u : U.Unit) (r : Record) → eventRow (takenByRow n u r .event) ≡ givenBy n
-row-by zero u r = ap (λ (b : Bool). cond b (a-row (numberByte (takenByRow 0 u r .event))) no-row) (leaves u r .event)
-row-by (suc n) u r = refl
+row-by : (n : ℕ) (c : Constants) (u : U.Unit) (x : Seen) → eventRow (takenByRow n c u x .event) ≡ givenBy n
+row-by zero c u x = ap (λ (b : Bool). cond b (a-row (numberByte (takenByRow 0 c u x .event))) no-row) (leaves c u x .event)
+row-by (suc n) c u x = refl
 
-module _ (u : U.Unit) (line : List ℕ) where
-  abbrev kept : Record
-  kept = recordOf (fieldsAt line)
-
-  lines-distinct : distinct (lineRows line) ≡ true
-  unfolding distinct hasNumber
-  lines-distinct = refl
-
-  rows-distinct : distinct (takeRows u line) ≡ true
-  unfolding distinct hasNumber
-  rows-distinct = refl
-
-  row-from : (n : ℕ) → firstRow (lineRows line) ≡ n → eventRow (takenRead u (readBy n kept) .event) ≡ givenBy (firstRow (takeRows u line))
-  unfolding readBy takenRecord
-  row-from zero e = row-by (firstRow (unitRows u kept)) u kept ∙ sym (ap givenBy (first-of-both (lineRows line) (unitRows u kept) lines-distinct e))
-  row-from (suc n) e = sym (ap givenBy (first-of-one (lineRows line) (unitRows u kept) n e))
-
-  pub first-row-given : Answers (takeRows u line) (eventRow (takenOf u line .event))
-  unfolding takenOf readOf
-  first-row-given = rw (row-from (firstRow (lineRows line)) refl) (first-given (takeRows u line) rows-distinct)
+pub first-row-given : (g : Category) (u : U.Unit) (line : List ℕ) → distinct (rowsIn g u line) ≡ true → Answers (rowsIn g u line) (eventRow (takenIn g u line .event))
+unfolding takenIn
+first-row-given g u line d = rw (row-by (firstRow (rowsIn g u line)) (g .constants) u (g .seen line)) (first-given (rowsIn g u line) d)

@@ -5,14 +5,10 @@ use Prim.Native.Nat.{ℕ, zero, suc, _*_, _≤_, _<_}
 use native.Mathlib.Omega.{arith}
 use lib.IntN.{ℤ, pos, natAbs, _+ℤ_}
 use lib.Signed.{ltZ, leZ}
+use Rattle.difference.specs.bounds.Numbers.{LARGEST, Moderate}
 use Rattle.laws.proofs.Cond.{cases}
 use Rattle.laws.proofs.Word.{abs-plus}
 use Rattle.grounds.specs.Chart.{nextValue, nextFirst}
-use Rattle.unit.specs.declared.chart.Charts.{Charts}
-use Rattle.unit.specs.declared.contribution.Contributions.{Contributions}
-use Rattle.unit.specs.Stretch.{FULL}
-use Rattle.unit.specs.Charts.{chartsOf}
-use Rattle.unit.specs.bounds.Numbers.{LARGEST, Moderate, AllRoomy, AllModerate, ChartsBounded}
 
 pub early-first : (before : ℕ) (value : ℤ) (first : ℕ) → before < 2 → nextFirst before value first ≡ 1
 unfolding nextFirst
@@ -35,20 +31,7 @@ value-within (suc n) value x h l =
     (λ _. omega arith)
     (λ _. omega (arith, abs-plus value x))
 
--- a full stretch leaves room
-pub roomy : {n : ℕ} (charts : Charts) → n ≤ FULL → ChartsBounded n charts → AllRoomy charts
-roomy charts h w = record { p = omega (arith, w .p); n = omega (arith, w .n); v = omega (arith, w .v); d = omega (arith, w .d) }
-
--- one sample more; the first of a stretch, whatever the charts held
-pub more-within : (n : ℕ) (charts : Charts) (x : Contributions) → ChartsBounded n charts → AllModerate x → ChartsBounded (suc n) (chartsOf charts n x)
-more-within n charts x w m =
-    record {
-      p = value-within n (charts .p .value) (x .p) (w .p) (m .p);
-      n = value-within n (charts .n .value) (x .n) (w .n) (m .n);
-      v = value-within n (charts .v .value) (x .v) (w .v) (m .v);
-      d = value-within n (charts .d .value) (x .d) (w .d) (m .d);
-    }
-
-pub first-within : (charts : Charts) (x : Contributions) → AllModerate x → ChartsBounded 1 (chartsOf charts 0 x)
+-- the first of a stretch, whatever the chart held
+pub first-within : (value x : ℤ) → Moderate x → natAbs (nextValue 0 value x) ≤ LARGEST * 1
 unfolding nextValue
-first-within charts x m = record { p = m .p; n = m .n; v = m .v; d = m .d }
+first-within value x m = m

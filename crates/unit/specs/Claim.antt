@@ -5,36 +5,34 @@ use mathlib.Core.Bool.{Bool, true, false, cond, not, _||_}
 use mathlib.Core.List.{List, [], _∷_, _++_}
 use lib.Dec.{eqb}
 use lib.ListN.{getD}
-use lib.IntN.{ℤ, pos}
 use Rattle.grounds.specs.Claim.{Grounds, Claim}
 use Rattle.grounds.specs.Entry.{Entry, missed as aMiss, sample}
-use Rattle.line.specs.Read.{readOf}
-use Rattle.line.specs.Refused.{MAINTENANCE}
-use Rattle.line.specs.declared.record.Record.{Record}
-use Rattle.line.specs.declared.record.Read.{Read}
-use Rattle.line.specs.declared.record.Read.the-variants.{Whole, Refused as Unread}
-use Rattle.unit.specs.Contribution.{food, limitOf}
+use Rattle.unit.specs.Category.{Category}
+use Rattle.unit.specs.Charts.{chartsIn, contributionTo, limit}
 use Rattle.unit.specs.Event.{eventByte}
-use Rattle.unit.specs.Sample.{Contributed, monthOf, missed, contributedBy}
-use Rattle.unit.specs.Take.{newUnit, takenOf}
+use Rattle.unit.specs.Food.{foodChemistry}
+use Rattle.unit.specs.Status.{noReport}
+use Rattle.unit.specs.Take.{newUnit, takenIn}
 use Rattle.unit.specs.declared.Unit as U
-use Rattle.unit.specs.declared.contribution.Contributions.{Contributions}
+use Rattle.difference.specs.declared.constants.Constants.{Constants}
 use Rattle.unit.specs.declared.event.Event.{Event}
 use Rattle.unit.specs.declared.report.Report.{Report}
 use Rattle.unit.specs.declared.report.ChartReport.{ChartReport}
+use Rattle.unit.specs.declared.seen.Seen.{Seen}
 
 -- a line given, with the event that was returned
 pub record Step : Type 0 where
   pub line : List ℕ
   pub event : Event
 
-abbrev pub historyFrom : U.Unit → List (List ℕ) → List Step
-historyFrom u [] = []
-historyFrom u (l ∷ ls) = record { line = l; event = takenOf u l .event } ∷ historyFrom (takenOf u l .unit) ls
+-- the lines given to a unit of a category, each with its event, in order
+abbrev pub historyIn : Category → U.Unit → List (List ℕ) → List Step
+historyIn g u [] = []
+historyIn g u (l ∷ ls) = record { line = l; event = takenIn g u l .event } ∷ historyIn g (takenIn g u l .unit) ls
 
--- the lines given to a new unit, each with its event, in order
+-- those given to a new unit
 abbrev pub history : List (List ℕ) → List Step
-history ls = historyFrom newUnit ls
+history ls = historyIn foodChemistry newUnit ls
 
 -- admission is event 04
 abbrev pub isAdmission : Event → Bool
@@ -60,50 +58,26 @@ abbrev pub openedIn : List Step → Bool
 openedIn [] = false
 openedIn (x ∷ h) = opens (x .event) || openedIn h
 
--- how many charts there are, and each chart's limit: chart c is chart c % 4 of analyte c / 4
-abbrev pub CHARTS : ℕ
-CHARTS = 16
+-- a maintenance line is missed or a sample
+abbrev pub entryBy : Bool → Constants → Seen → Entry
+entryBy true c x = aMiss (x .month)
+entryBy false c x = sample (x .year) (contributionTo c (x .differences))
 
-abbrev pub limit : ℕ → ℤ
-limit c = limitOf food (c % 4)
+-- a study line leaves no entry
+abbrev pub entryOf : Constants → Seen → List Entry
+entryOf c x = cond (x .study) [] (entryBy (x .missed) c x ∷ [])
 
--- a sample's contribution to chart c
-abbrev pub noContributions : Contributions
-noContributions = record { p = pos 0; n = pos 0; v = pos 0; d = pos 0 }
+abbrev pub entryIn : Category → Step → List Entry
+entryIn g x = cond (isAccepted (x .event)) (entryOf (g .constants) (g .seen (x .line))) []
 
-abbrev pub analyteAt : Contributed → ℕ → Contributions
-analyteAt x analyte = getD (x .moisture ∷ x .protein ∷ x .fat ∷ x .salt ∷ []) analyte noContributions
-
-abbrev pub contributionAt : Contributions → ℕ → ℤ
-contributionAt x chart = getD (x .p ∷ x .n ∷ x .v ∷ x .d ∷ []) chart (pos 0)
-
-abbrev pub contributionTo : Contributed → ℕ → ℤ
-contributionTo x c = contributionAt (analyteAt x (c / 4)) (c % 4)
-
--- a maintenance record is missed or a sample
-abbrev pub entryBy : Bool → Record → Entry
-entryBy true r = aMiss (monthOf r)
-entryBy false r = sample (r .year) (contributionTo (contributedBy r))
-
--- of a record that was read, its entry if it is of kind 01
-abbrev pub entryOf : Read → List Entry
-entryOf (Unread n) = []
-entryOf (Whole r) = cond (eqb (r .kind) MAINTENANCE) (entryBy (missed r) r ∷ []) []
-
-abbrev pub entryIn : Step → List Entry
-entryIn x = cond (isAccepted (x .event)) (entryOf (readOf (x .line))) []
-
--- the accepted lines of kind 01
-abbrev pub entriesOf : List Step → List Entry
-entriesOf [] = []
-entriesOf (x ∷ h) = entryIn x ++ entriesOf h
+-- the accepted maintenance lines, for food chemistry those of kind 01
+abbrev pub entriesOf : Category → List Step → List Entry
+entriesOf g [] = []
+entriesOf g (x ∷ h) = entryIn g x ++ entriesOf g h
 
 -- a chart is named by its bit
 abbrev pub bitAt : ℕ → ℕ → Bool
 bitAt c mask = eqb (mask / 2 ^ c % 2) 1
-
-abbrev pub noReport : ChartReport
-noReport = record { over = false; first = 0; last = 0; value = pos 0 }
 
 abbrev pub shownAt : Report → ℕ → ChartReport
 shownAt report c = getD (report .charts) c noReport
@@ -120,6 +94,10 @@ shown h report =
       value = λ c. shownAt report c .value;
     }
 
+-- The claim about the steps since admission: the category's charts, each with its limit, the entries, and what is named and shown.
+abbrev pub ClaimIn : Category → List Step → Report → Type 0
+ClaimIn g h report = Claim (chartsIn (g .constants)) (limit (g .constants)) (entriesOf g h) (shown h report)
+
 -- Nobody with the whole list can find a ground for probation that the unit missed, or overturn one that it named.
 abbrev pub ClaimOf : List (List ℕ) → Report → Type 0
-ClaimOf ls report = let h = since (history ls) in Claim CHARTS limit (entriesOf h) (shown h report)
+ClaimOf ls report = ClaimIn foodChemistry (since (history ls)) report

@@ -1,12 +1,8 @@
 -- Document 01, section by section. `bounds` is no part of its rules.
-pub mod Largest
-pub mod Difference
-pub mod Contribution
-pub mod Standardize
+pub mod Category
+pub mod Food
 pub mod Charts
-pub mod Sample
 pub mod Stretch
-pub mod Study
 pub mod Set
 pub mod Event
 pub mod Take

@@ -2,13 +2,18 @@
 use Prim.Native.Nat.{ℕ}
 use mathlib.Core.Path.{_≡_}
 use mathlib.Core.List.{List, [], _∷_}
-use Rattle.unit.specs.Take.{newUnit, takenOf}
+use Rattle.unit.specs.Category.{Category}
+use Rattle.unit.specs.Food.{foodChemistry}
+use Rattle.unit.specs.Take.{newUnit, takenIn}
 use Rattle.unit.specs.declared.Unit as U
 
--- the unit after further lines
+-- the unit after further lines of its category
+abbrev pub afterIn : Category → U.Unit → List (List ℕ) → U.Unit
+afterIn g u [] = u
+afterIn g u (l ∷ ls) = afterIn g (takenIn g u l .unit) ls
+
 abbrev pub after : U.Unit → List (List ℕ) → U.Unit
-after u [] = u
-after u (l ∷ ls) = after (takenOf u l .unit) ls
+after u ls = afterIn foodChemistry u ls
 
 -- the unit after the lines given to a new one
 abbrev pub replay : List (List ℕ) → U.Unit

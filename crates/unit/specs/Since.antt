@@ -2,10 +2,28 @@
 use Prim.Native.Nat.{ℕ}
 use mathlib.Core.Path.{_≡_}
 use mathlib.Core.Bool.{Bool, true, false, _||_}
-use mathlib.Core.Logic.{_⊎_}
+use mathlib.Core.Logic.{_⊎_, _↔_}
 use mathlib.Core.List.{List, [], _∷_, _++_}
 use Rattle.grounds.specs.Entry.{years, NeverFall}
-use Rattle.unit.specs.Claim.{Step, history, isAdmission, since, entriesOf}
+use Rattle.line.specs.Read.{readOf}
+use Rattle.line.specs.Refused.{MAINTENANCE}
+use Rattle.line.specs.declared.record.Record.{Record}
+use Rattle.line.specs.declared.record.Read.the-variants.{Whole}
+use Rattle.unit.specs.Claim.{Step, history, isAdmission, isAccepted, since, entriesOf}
+use Rattle.unit.specs.Food.{seenOf, foodChemistry}
+use Rattle.unit.specs.Take.{takenOf}
+use Rattle.unit.specs.declared.Unit as U
+
+-- what an accepted line is: it reads, what it is to the unit is what its record is, and it is no study line exactly where its kind is 01
+pub record Accepted (line : List ℕ) : Type 0 where
+  pub of : Record
+  pub reads : readOf line ≡ Whole of
+  pub seen : foodChemistry .seen line ≡ seenOf of
+  pub kind : (foodChemistry .seen line .study ≡ false) ↔ (of .kind ≡ MAINTENANCE)
+
+-- So the entries are the accepted lines of kind 01. Proved as `accepted-is` of proofs/GoodLaws.
+abbrev pub AcceptedIs : Type 0
+AcceptedIs = (u : U.Unit) (line : List ℕ) → isAccepted (takenOf u line .event) ≡ true → Accepted line
 
 abbrev pub admits : List Step → Bool
 admits [] = false
@@ -32,4 +50,4 @@ SinceIs h = Since h (since h)
 -- The years of the samples since admission never fall, so a stretch, which document 01 opens where the year differs from the last sample's, is the
 -- samples of one calendar year. Proved as `years-never-fall` of proofs/Claimed.
 abbrev pub YearsNeverFall : Type 0
-YearsNeverFall = (ls : List (List ℕ)) → NeverFall (years (entriesOf (since (history ls))))
+YearsNeverFall = (ls : List (List ℕ)) → NeverFall (years (entriesOf foodChemistry (since (history ls))))

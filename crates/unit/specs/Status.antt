@@ -1,44 +1,37 @@
 -- Document 01, "The program": the status. Stage, samples in the stretch, mask of charts over (bit = chart number), whether misses opened probation,
--- and for each chart the run shown, first and last sample, with its sum. Chart number = 4 × analyte + 0 P, 1 N, 2 V, 3 D.
+-- and for each chart the run shown, first and last sample, with its sum.
 use Prim.Native.Nat.{ℕ, _+_, _*_}
 use mathlib.Core.Bool.{Bool, true, false}
-use mathlib.Core.List.{List, [], _∷_, _++_}
-use Rattle.unit.specs.Charts.{overOf}
-use Rattle.unit.specs.Contribution.{food}
+use mathlib.Core.List.{List, [], _∷_}
+use lib.IntN.{pos}
+use lib.ListN.{replicate}
+use Rattle.laws.specs.Each.{eachBelow}
+use Rattle.unit.specs.Category.{CHARTS}
+use Rattle.unit.specs.Charts.{chartsIn, isOver}
+use Rattle.unit.specs.Food.{foodChemistry}
+use Rattle.unit.specs.Stretch.{chartAt}
 use Rattle.unit.specs.declared.Unit as U
 use Rattle.unit.specs.declared.chart.Chart.{Chart}
-use Rattle.unit.specs.declared.chart.Charts.{Charts}
+use Rattle.difference.specs.declared.constants.Constants.{Constants}
 use Rattle.unit.specs.declared.report.ChartReport.{ChartReport}
 use Rattle.unit.specs.declared.report.Report.{Report}
-use Rattle.unit.specs.declared.shown.Reports.{Reports}
 use Rattle.unit.specs.declared.stretch.Stretch.{Stretch}
 
 -- a chart, by whether it is over and the stretch's last sample, at which the run shown ends
 abbrev pub reportFor : Bool → ℕ → Chart → ChartReport
-reportFor over last c = record { over = over; first = c .first; last = last; value = c .value }
+reportFor over last chart = record { over = over; first = chart .first; last = last; value = chart .value }
 
--- an analyte's charts
-abbrev pub reportsFor : ℕ → Charts → Reports
-reportsFor last c =
-    record {
-      p = reportFor (overOf c food .p) last (c .p);
-      n = reportFor (overOf c food .n) last (c .n);
-      v = reportFor (overOf c food .v) last (c .v);
-      d = reportFor (overOf c food .d) last (c .d);
-    }
+-- of a chart that the category does not have nothing is shown
+abbrev pub noReport : ChartReport
+noReport = record { over = false; first = 0; last = 0; value = pos 0 }
 
--- in the order of their numbers
-abbrev pub inOrder : Reports → List ChartReport
-inOrder r = r .p ∷ r .n ∷ r .v ∷ r .d ∷ []
+-- chart n
+abbrev pub reportAt : Constants → Stretch → ℕ → ChartReport
+reportAt c s n = let chart = chartAt (s .charts) n in reportFor (isOver c n chart) (s .samples) chart
 
-abbrev pub sixteen : Reports → Reports → Reports → Reports → List ChartReport
-sixteen moisture protein fat salt = inOrder moisture ++ (inOrder protein ++ (inOrder fat ++ inOrder salt))
-
--- the sixteen charts
-abbrev pub reportsOf : Stretch → List ChartReport
-reportsOf s =
-    sixteen (reportsFor (s .samples) (s .moisture)) (reportsFor (s .samples) (s .protein)) (reportsFor (s .samples) (s .fat))
-    (reportsFor (s .samples) (s .salt))
+-- the charts by number
+abbrev pub reportsOf : Constants → Stretch → List ChartReport
+reportsOf c s = eachBelow (chartsIn c) (λ n _. reportAt c s n) (replicate CHARTS noReport)
 
 abbrev pub bitOf : Bool → ℕ
 bitOf true = 1
@@ -48,12 +41,16 @@ abbrev pub maskOf : List ChartReport → ℕ
 maskOf [] = 0
 maskOf (r ∷ reports) = bitOf (r .over) + 2 * maskOf reports
 
-unfoldable pub statusOf : U.Unit → Report
-statusOf u =
+-- the status of a unit of a category with these constants
+unfoldable pub statusBy : Constants → U.Unit → Report
+statusBy c u =
     record {
       stage = u .stage;
       samples = u .stretch .samples;
-      mask = maskOf (reportsOf (u .stretch));
+      mask = maskOf (reportsOf c (u .stretch));
       misses = u .misses .opened;
-      charts = reportsOf (u .stretch);
+      charts = reportsOf c (u .stretch);
     }
+
+abbrev pub statusOf : U.Unit → Report
+statusOf u = statusBy (foodChemistry .constants) u

@@ -1,48 +1,41 @@
--- Document 01, "Stretch and run": the sixteen charts of the stretch under way, with its year and its number of samples.
+-- Document 01, "Stretch and run": the charts of the stretch under way, with its year and its number of samples.
 use Prim.Native.Nat.{ℕ, suc}
-use mathlib.Core.Bool.{Bool, _||_}
-use lib.IntN.{pos}
+use mathlib.Core.Bool.{Bool}
+use mathlib.Core.List.{List}
+use lib.ListN.{getD, replicate}
 use Rattle.grounds.specs.Earlier.{before}
-use Rattle.unit.specs.Charts.{chartsOf, overOf}
-use Rattle.unit.specs.Contribution.{food}
+use Rattle.laws.specs.Each.{eachBelow, anyBelow}
+use Rattle.unit.specs.Category.{CHARTS}
+use Rattle.unit.specs.Charts.{chartsIn, noChart, movedBy, isOver}
 use Rattle.unit.specs.declared.chart.Chart.{Chart}
-use Rattle.unit.specs.declared.chart.Charts.{Charts}
-use Rattle.unit.specs.Sample.{Contributed}
+use Rattle.difference.specs.declared.constants.Constants.{Constants}
+use Rattle.difference.specs.declared.difference.Difference.{Difference}
 use Rattle.unit.specs.declared.stretch.Stretch.{Stretch}
-
--- a chart before its first sample: nothing is shown of it, and its first sample sets both
-abbrev pub noChart : Chart
-noChart = record { value = pos 0; first = 0 }
-
-abbrev pub noCharts : Charts
-noCharts = record { p = noChart; n = noChart; v = noChart; d = noChart }
 
 -- no sample since admission: year 0, which no line has
 abbrev pub noSamples : Stretch
-noSamples = record { year = 0; samples = 0; moisture = noCharts; protein = noCharts; fat = noCharts; salt = noCharts }
+noSamples = record { year = 0; samples = 0; charts = replicate CHARTS noChart }
 
 -- the samples of this year's stretch before a sample of the year
 abbrev pub earlier : Stretch → ℕ → ℕ
 earlier s year = before year (s .year) (s .samples)
 
--- after a sample that contributes x
-abbrev pub sampledOf : Stretch → ℕ → Contributed → Stretch
-sampledOf s year x =
+-- after a sample of the year with these differences
+abbrev pub sampledOf : Constants → Stretch → ℕ → List Difference → Stretch
+sampledOf c s year ds =
     record {
       year = year;
       samples = suc (earlier s year);
-      moisture = chartsOf (s .moisture) (earlier s year) (x .moisture);
-      protein = chartsOf (s .protein) (earlier s year) (x .protein);
-      fat = chartsOf (s .fat) (earlier s year) (x .fat);
-      salt = chartsOf (s .salt) (earlier s year) (x .salt);
+      charts = eachBelow (chartsIn c) (movedBy c (earlier s year) ds) (s .charts);
     }
 
--- whether any chart is over
-abbrev pub overIn : Charts → Bool
-overIn charts = overOf charts food .p || overOf charts food .n || overOf charts food .v || overOf charts food .d
+-- chart n
+abbrev pub chartAt : List Chart → ℕ → Chart
+chartAt charts n = getD charts n noChart
 
-abbrev pub anyOver : Stretch → Bool
-anyOver s = overIn (s .moisture) || overIn (s .protein) || overIn (s .fat) || overIn (s .salt)
+-- whether any chart is over
+abbrev pub anyOver : Constants → List Chart → Bool
+anyOver c charts = anyBelow (chartsIn c) (λ (n : ℕ). isOver c n (chartAt charts n))
 
 -- a stretch holds at most 999 samples
 abbrev pub FULL : ℕ

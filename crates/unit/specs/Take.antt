@@ -4,22 +4,19 @@ use mathlib.Core.Bool.{Bool, true, false, cond, not, _&&_, _||_}
 use mathlib.Core.List.{List, [], _∷_, _++_}
 use lib.Dec.{leb, ltb, eqb}
 use Rattle.grounds.specs.Earlier.{again}
-use Rattle.line.specs.Fields.{recordOf}
-use Rattle.line.specs.Read.{fieldsAt, lineRows, readOf}
 use Rattle.rows.specs.Rows.{Row, firstRow}
-use Rattle.line.specs.Refused.{MAINTENANCE, STUDY}
-use Rattle.line.specs.declared.record.Record.{Record}
-use Rattle.line.specs.declared.record.Read.{Read}
-use Rattle.line.specs.declared.record.Read.the-variants.{Whole, Refused as Unread}
-use Rattle.unit.specs.Sample.{monthOf, missed, differencesOf, contributedBy}
+use Rattle.unit.specs.Category.{Category}
+use Rattle.unit.specs.Food.{foodChemistry}
 use Rattle.unit.specs.Set.{emptySet, enteredOf, passesSet}
-use Rattle.unit.specs.Study.{SET}
+use Rattle.study.specs.Study.{SET}
 use Rattle.unit.specs.Stretch.{FULL, noSamples, sampledOf, anyOver}
 use Rattle.unit.specs.declared.Unit as U
 use Rattle.unit.specs.declared.Taken.{Taken}
 use Rattle.unit.specs.declared.Misses.{Misses}
+use Rattle.difference.specs.declared.constants.Constants.{Constants}
 use Rattle.unit.specs.declared.event.Event.{Event}
 use Rattle.unit.specs.declared.event.Event.the-variants.{Refused, Sample, Missed, UnderWay, Passed, Failed, ByCharts, ByMisses}
+use Rattle.unit.specs.declared.seen.Seen.{Seen}
 use Rattle.unit.specs.declared.set.Set.{Set}
 use Rattle.unit.specs.declared.stretch.Stretch.{Stretch}
 
@@ -52,20 +49,20 @@ abbrev pub closedRow : U.Unit → Bool
 closedRow u = eqb (u .stage) CLOSED
 
 -- stage: maintenance outside 2, study in 2
-abbrev pub stageRow : U.Unit → Record → Bool
-stageRow u r = (eqb (r .kind) MAINTENANCE && not (eqb (u .stage) ACCREDITED)) || (eqb (r .kind) STUDY && eqb (u .stage) ACCREDITED)
+abbrev pub stageRow : U.Unit → Seen → Bool
+stageRow u x = (not (x .study) && not (eqb (u .stage) ACCREDITED)) || (x .study && eqb (u .stage) ACCREDITED)
 
 -- backdated: month number before the last accepted line's
-abbrev pub backdatedRow : U.Unit → Record → Bool
-backdatedRow u r = ltb (monthOf r) (u .month)
+abbrev pub backdatedRow : U.Unit → Seen → Bool
+backdatedRow u x = ltb (x .month) (u .month)
 
 -- gap: study line with a lost reading or days over 21
-abbrev pub gapRow : Record → Bool
-gapRow r = eqb (r .kind) STUDY && missed r
+abbrev pub gapRow : Seen → Bool
+gapRow x = x .study && x .missed
 
 -- full: a sample, same year, stretch already holds 999
-abbrev pub fullRow : U.Unit → Record → Bool
-fullRow u r = (eqb (r .kind) MAINTENANCE && not (missed r)) && (eqb (r .year) (u .stretch .year) && leb FULL (u .stretch .samples))
+abbrev pub fullRow : U.Unit → Seen → Bool
+fullRow u x = (not (x .study) && not (x .missed)) && (eqb (x .year) (u .stretch .year) && leb FULL (u .stretch .samples))
 
 -- the rows' numbers
 abbrev pub ROW-CLOSED : ℕ
@@ -84,13 +81,13 @@ abbrev pub ROW-FULL : ℕ
 ROW-FULL = 12
 
 -- rows 8 to 12, in the table's order
-abbrev pub unitRows : U.Unit → Record → List Row
-unitRows u r =
+abbrev pub unitRows : U.Unit → Seen → List Row
+unitRows u x =
     record { number = ROW-CLOSED; fits = closedRow u }
-    ∷ record { number = ROW-STAGE; fits = stageRow u r }
-    ∷ record { number = ROW-BACKDATED; fits = backdatedRow u r }
-    ∷ record { number = ROW-GAP; fits = gapRow r }
-    ∷ record { number = ROW-FULL; fits = fullRow u r }
+    ∷ record { number = ROW-STAGE; fits = stageRow u x }
+    ∷ record { number = ROW-BACKDATED; fits = backdatedRow u x }
+    ∷ record { number = ROW-GAP; fits = gapRow x }
+    ∷ record { number = ROW-FULL; fits = fullRow u x }
     ∷ []
 
 -- a refusal returns its number alone, and the unit keeps its contents
@@ -107,16 +104,16 @@ abbrev pub missedBy : Bool → U.Unit → ℕ → Taken
 missedBy true u month = takenAs ByMisses PROBATION month (u .set) (u .stretch) (record { last = month; opened = true })
 missedBy false u month = takenAs Missed (u .stage) month (u .set) (u .stretch) (record { last = month; opened = u .misses .opened })
 
-abbrev pub missedOf : U.Unit → Record → Taken
-missedOf u r = missedBy (again (u .misses .last) (monthOf r)) u (monthOf r)
+abbrev pub missedOf : U.Unit → Seen → Taken
+missedOf u x = missedBy (again (u .misses .last) (x .month)) u (x .month)
 
 -- A sample: by whether it leaves any chart over.
 abbrev pub sampleBy : Bool → U.Unit → ℕ → Stretch → Taken
 sampleBy true u month s = takenAs ByCharts PROBATION month (u .set) s (u .misses)
 sampleBy false u month s = takenAs Sample (u .stage) month (u .set) s (u .misses)
 
-abbrev pub sampleOf : U.Unit → Record → Taken
-sampleOf u r = let s = sampledOf (u .stretch) (r .year) (contributedBy r) in sampleBy (anyOver s) u (monthOf r) s
+abbrev pub sampleOf : Constants → U.Unit → Seen → Taken
+sampleOf c u x = let s = sampledOf c (u .stretch) (x .year) (x .differences) in sampleBy (anyOver c (s .charts)) u (x .month) s
 
 -- A set that was judged, by whether it passed. Passed is admission, which clears charts, grounds and misses.
 abbrev pub failedStage : ℕ → ℕ
@@ -127,36 +124,41 @@ judgedBy true u month = takenAs Passed ACCREDITED month emptySet noSamples noMis
 judgedBy false u month = takenAs Failed (failedStage (u .stage)) month emptySet (u .stretch) (u .misses)
 
 -- A study line: by whether it is the set's last.
-abbrev pub studyBy : Bool → U.Unit → ℕ → Set → Taken
-studyBy true u month s = judgedBy (passesSet s) u month
-studyBy false u month s = takenAs (UnderWay (s .lines)) (u .stage) month s (u .stretch) (u .misses)
+abbrev pub studyBy : Bool → Constants → U.Unit → ℕ → Set → Taken
+studyBy true c u month s = judgedBy (passesSet c s) u month
+studyBy false c u month s = takenAs (UnderWay (s .lines)) (u .stage) month s (u .stretch) (u .misses)
 
-abbrev pub studyOf : U.Unit → Record → Taken
-studyOf u r = let s = enteredOf (u .set) (differencesOf r) in studyBy (eqb (s .lines) SET) u (monthOf r) s
+abbrev pub studyOf : Constants → U.Unit → Seen → Taken
+studyOf c u x = let s = enteredOf c (u .set) (x .differences) in studyBy (eqb (s .lines) SET) c u (x .month) s
 
--- an accepted line
-abbrev pub acceptedBy : Bool → Bool → U.Unit → Record → Taken
-acceptedBy true gone u r = studyOf u r
-acceptedBy false true u r = missedOf u r
-acceptedBy false false u r = sampleOf u r
+-- an accepted line, by whether it is a study line and whether it is missed
+abbrev pub acceptedBy : Bool → Bool → Constants → U.Unit → Seen → Taken
+acceptedBy true gone c u x = studyOf c u x
+acceptedBy false true c u x = missedOf u x
+acceptedBy false false c u x = sampleOf c u x
 
--- a record, by the first of rows 8 to 12 that fits
-abbrev pub takenByRow : ℕ → U.Unit → Record → Taken
-takenByRow zero u r = acceptedBy (eqb (r .kind) STUDY) (missed r) u r
-takenByRow (suc row) u r = refusedOf u (suc row)
+-- a line, by the first row that fits
+abbrev pub takenByRow : ℕ → Constants → U.Unit → Seen → Taken
+takenByRow zero c u x = acceptedBy (x .study) (x .missed) c u x
+takenByRow (suc row) c u x = refusedOf u (suc row)
 
-unfoldable pub takenRecord : U.Unit → Record → Taken
+-- a line that reads, by rows 8 to 12
+unfoldable pub takenSeen : Constants → U.Unit → Seen → Taken
 unfolding firstRow
-takenRecord u r = takenByRow (firstRow (unitRows u r)) u r
+takenSeen c u x = takenByRow (firstRow (unitRows u x)) c u x
 
--- a line that does not read is refused before the stage is looked at
-abbrev pub takenRead : U.Unit → Read → Taken
-takenRead u (Unread n) = refusedOf u n
-takenRead u (Whole r) = takenRecord u r
+-- All rows of a line given to a unit, for food chemistry 1 to 12: a line that does not read is refused before the stage is looked at. The first that
+-- fits is given, and only then: clause `first` of `take`.
+abbrev pub rowsIn : Category → U.Unit → List ℕ → List Row
+rowsIn g u line = g .rows line ++ unitRows u (g .seen line)
 
-unfoldable pub takenOf : U.Unit → List ℕ → Taken
-takenOf u line = takenRead u (readOf line)
+unfoldable pub takenIn : Category → U.Unit → List ℕ → Taken
+unfolding firstRow
+takenIn g u line = takenByRow (firstRow (rowsIn g u line)) (g .constants) u (g .seen line)
 
--- All rows of a line given to a unit, 1 to 12. The first that fits is given, and only then: clause `first` of `take`.
+-- a unit of food chemistry
 abbrev pub takeRows : U.Unit → List ℕ → List Row
-takeRows u line = lineRows line ++ unitRows u (recordOf (fieldsAt line))
+takeRows u line = rowsIn foodChemistry u line
+
+abbrev pub takenOf : U.Unit → List ℕ → Taken
+takenOf u line = takenIn foodChemistry u line

@@ -1,33 +1,27 @@
 // The check-sample unit: a new one, a line taken, and the status.
 mod chart;
-mod coefficient;
-mod contribution;
-mod difference;
 pub mod event;
-mod powers;
+mod food;
 pub mod report;
-mod root;
-mod sample;
+mod seen;
 mod set;
 mod shown;
-mod size;
 mod stage;
-pub mod standardize;
 mod stretch;
-mod study;
 
+use difference::constants::FOOD;
 use event::Event;
+use food::see;
 use line::record::Read;
 use report::Report;
 use set::Set;
 use set::empty_set;
-use shown::full_mask;
-use shown::list;
-use shown::reports_for;
+use shown::mask_of;
+use shown::reports;
 use stage::APPLICANT;
 use stage::no_misses;
 use stage::refused;
-use stage::take_record;
+use stage::take_seen;
 use stretch::Stretch;
 use stretch::no_samples;
 ghost use Prim.Native.Nat.{ℕ};
@@ -102,7 +96,7 @@ pub fn take(unit: Unit, line: &[u8]) -> Taken
     let Read::Whole(r) = answer else {
         return refused(unit, number_of(answer));
     };
-    take_record(unit, r)
+    take_seen(FOOD, unit, see(r))
 }
 
 // The status of a unit. Whatever list of lines led to the unit, nobody with that list can find a
@@ -113,15 +107,12 @@ pub fn status(unit: Unit) -> Report
 {
     let stretch = unit.stretch;
     let misses = unit.misses;
-    let m = reports_for(stretch.samples, stretch.moisture);
-    let p = reports_for(stretch.samples, stretch.protein);
-    let f = reports_for(stretch.samples, stretch.fat);
-    let s = reports_for(stretch.samples, stretch.salt);
+    let charts = reports(FOOD, stretch);
     Report {
         stage: unit.stage,
         samples: stretch.samples,
-        mask: full_mask(m, p, f, s),
+        mask: mask_of(charts),
         misses: misses.opened,
-        charts: list(m, p, f, s),
+        charts,
     }
 }

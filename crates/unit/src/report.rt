@@ -1,4 +1,9 @@
 // What the status shows.
+use crate::seen::ANALYTES;
+use crate::seen::EACH;
+
+// The charts that a unit has room for: those of each analyte.
+pub const CHARTS: usize = EACH as usize * ANALYTES;
 
 // A chart: whether it is over, and the run shown with its sum.
 pub struct ChartReport {
@@ -15,5 +20,5 @@ pub struct Report {
     pub samples: u16,
     pub mask: u16,
     pub misses: bool,
-    pub charts: [ChartReport; 16],
+    pub charts: [ChartReport; CHARTS],
 }

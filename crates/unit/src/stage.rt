@@ -1,11 +1,9 @@
-// What a record does to a unit: rows 8 to 12, then a study line, a missed line or a sample.
+// What a line does to a unit: rows 8 to 12, then a study line, a missed line or a sample.
 use crate::Misses;
 use crate::Taken;
 use crate::Unit;
 use crate::event::Event;
-use crate::sample::find_differences;
-use crate::sample::is_missed;
-use crate::sample::month_of;
+use crate::seen::Seen;
 use crate::set::Set;
 use crate::set::empty_set;
 use crate::set::entered;
@@ -14,22 +12,20 @@ use crate::stretch::Stretch;
 use crate::stretch::any_over;
 use crate::stretch::no_samples;
 use crate::stretch::sampled;
-use crate::study::LINES;
-use line::record::MAINTENANCE;
-use line::record::Record;
-use line::record::STUDY;
+use difference::constants::Constants;
 use rows::first_of;
+use study::LINES;
 ghost use mathlib.Core.Path.{_≡_};
 ghost use mathlib.Core.Bool.{true};
 ghost use Prim.Native.Nat.{_≤_};
 ghost use lib.Dec.{eqb};
 ghost use Rattle.grounds.specs.Earlier.{again};
 ghost use Rattle.rows.specs.Rows.{firstRow};
-ghost use Rattle.unit.specs.bounds.Records.{GoodRecord};
-ghost use Rattle.unit.specs.Study.{SET};
+ghost use Rattle.unit.specs.Category.{ANALYTES};
+ghost use Rattle.study.specs.Study.{SET};
 ghost use Rattle.unit.specs.Stretch.{anyOver};
-ghost use Rattle.unit.specs.Take.{unitRows, refusedOf, noMisses, takenAs, missedBy, sampleBy, failedStage, judgedBy, studyBy, takenRecord};
-ghost use Rattle.unit.specs.bounds.Numbers.{Bounded, LAST-MONTH, SetBounded};
+ghost use Rattle.unit.specs.Take.{unitRows, refusedOf, noMisses, takenAs, missedBy, sampleBy, failedStage, judgedBy, studyBy, takenSeen};
+ghost use Rattle.unit.specs.bounds.Numbers.{Bounded, GoodSeen, LAST-MONTH};
 
 // The stages.
 pub const APPLICANT: u8 = 0;
@@ -59,24 +55,18 @@ const ROW_GAP: u8 = 11;
 const ROW_FULL: u8 = 12;
 
 // The first of rows 8 to 12 that fits, or 0.
-fn first_row(u: Unit, r: Record) -> u8
-    requires { ⌜ GoodRecord r ⌝ }
-    ensures { λ n. ⌜ n ≡ firstRow (unitRows u r) ⌝ }
+fn first_row(u: Unit, x: Seen) -> u8
+    ensures { λ n. ⌜ n ≡ firstRow (unitRows u x) ⌝ }
 {
     let stretch = u.stretch;
-    let missed = is_missed(r);
-    let month = month_of(r);
-    let stage = ((r.kind == MAINTENANCE) & !(u.stage == ACCREDITED))
-        | ((r.kind == STUDY) & (u.stage == ACCREDITED));
-    let gap = (r.kind == STUDY) & missed;
-    let full = ((r.kind == MAINTENANCE) & !missed)
-        & ((r.year == stretch.year) & (FULL <= stretch.samples));
+    let stage = (!x.study & !(u.stage == ACCREDITED)) | (x.study & (u.stage == ACCREDITED));
+    let full = (!x.study & !x.missed) & ((x.year == stretch.year) & (FULL <= stretch.samples));
     first_of(
         [ROW_CLOSED, ROW_STAGE, ROW_BACKDATED, ROW_GAP, ROW_FULL],
         u.stage == CLOSED,
         stage,
-        month < u.month,
-        gap,
+        x.month < u.month,
+        x.study & x.missed,
         full,
     )
 }
@@ -136,10 +126,12 @@ fn missed_line(u: Unit, month: u16) -> Taken
     taken(Event::Missed, u.stage, month, u.set, u.stretch, misses)
 }
 
-fn sample_line(u: Unit, month: u16, stretch: Stretch) -> Taken
-    ensures { λ t. ⌜ t ≡ sampleBy (anyOver stretch) u month stretch ⌝ }
+fn sample_line(c: Constants, u: Unit, month: u16, stretch: Stretch) -> Taken
+    requires { ⌜ c .analytes ≤ ANALYTES ⌝ }
+    ensures { λ t. ⌜ t ≡ sampleBy (anyOver c (stretch .charts)) u month stretch ⌝ }
 {
-    if any_over(stretch) {
+    let charts = stretch.charts;
+    if any_over(c, charts) {
         return taken(Event::ByCharts, PROBATION, month, u.set, stretch, u.misses);
     }
     taken(Event::Sample, u.stage, month, u.set, stretch, u.misses)
@@ -177,12 +169,12 @@ fn judged(u: Unit, month: u16, passed: bool) -> Taken
     )
 }
 
-fn study_line(u: Unit, month: u16, set: Set) -> Taken
-    requires { ⌜ SetBounded set ⌝ }
-    ensures { λ t. ⌜ t ≡ studyBy (eqb (set .lines) SET) u month set ⌝ }
+fn study_line(c: Constants, u: Unit, month: u16, set: Set) -> Taken
+    requires { ⌜ c .analytes ≤ ANALYTES ⌝ }
+    ensures { λ t. ⌜ t ≡ studyBy (eqb (set .lines) SET) c u month set ⌝ }
 {
     if set.lines == LINES {
-        return judged(u, month, passes_set(set));
+        return judged(u, month, passes_set(c, set));
     }
     taken(
         Event::UnderWay(set.lines),
@@ -194,21 +186,21 @@ fn study_line(u: Unit, month: u16, set: Set) -> Taken
     )
 }
 
-// A record that was read.
-pub fn take_record(u: Unit, r: Record) -> Taken
-    requires { ⌜ Bounded u × GoodRecord r ⌝ }
-    ensures { λ t. ⌜ t ≡ takenRecord u r ⌝ }
+// What a line that reads does, by the constants of its category.
+pub fn take_seen(c: Constants, u: Unit, x: Seen) -> Taken
+    requires { ⌜ (c .analytes ≤ ANALYTES) × Bounded c u × GoodSeen x ⌝ }
+    ensures { λ t. ⌜ t ≡ takenSeen c u x ⌝ }
 {
-    let row = first_row(u, r);
+    let row = first_row(u, x);
     if row != 0 {
         return refused(u, row);
     }
-    let month = month_of(r);
-    if r.kind == STUDY {
-        return study_line(u, month, entered(u.set, find_differences(r)));
+    let d = x.differences;
+    if x.study {
+        return study_line(c, u, x.month, entered(c, u.set, d));
     }
-    if is_missed(r) {
-        return missed_line(u, month);
+    if x.missed {
+        return missed_line(u, x.month);
     }
-    sample_line(u, month, sampled(u.stretch, r))
+    sample_line(c, u, x.month, sampled(c, u.stretch, x.year, d))
 }

@@ -1,56 +1,37 @@
-// The stretch under way: its year, its samples and the sixteen charts.
+// The stretch under way: its year, its samples and the charts.
 use crate::chart::Chart;
-use crate::chart::Charts;
-use crate::chart::find_over;
-use crate::chart::step_all;
-use crate::contribution::Contributions;
-use crate::contribution::FOOD;
-use crate::contribution::contribute;
-use crate::sample::difference;
-use line::record::Reading;
-use line::record::Record;
+use crate::chart::step;
+use crate::report::CHARTS;
+use crate::seen::ANALYTES;
+use crate::seen::EACH;
+use difference::constants::Constants;
+use difference::contribution::contribute;
+use difference::contribution::limit;
+use difference::difference::Difference;
 ghost use mathlib.Core.Path.{_≡_};
-ghost use Prim.Native.Nat.{_<_};
-ghost use Rattle.line.specs.Refused.{classOf};
-ghost use Rattle.unit.specs.Sample.{contributionsFor, contributedBy};
-ghost use Rattle.unit.specs.bounds.Numbers.{StretchBounded};
-ghost use Rattle.unit.specs.bounds.Records.{GoodMean, GoodRecord};
-ghost use Rattle.unit.specs.Stretch.{noCharts, noSamples, earlier, sampledOf, overIn, anyOver, FULL};
+ghost use Prim.Native.Nat.{_<_, _≤_};
+ghost use Rattle.laws.specs.Each.{eachBelow};
+ghost use Rattle.unit.specs.Category.{ANALYTES};
+ghost use Rattle.unit.specs.Charts.{isOver, movedBy, chartsIn};
+ghost use Rattle.unit.specs.Stretch.{noSamples, earlier, sampledOf, anyOver, FULL};
+ghost use Rattle.unit.specs.bounds.Numbers.{StretchBounded, ChartsRoomy};
 
-// The charts of moisture, protein, fat and salt.
+// The charts by number: 4 × analyte + 0 P, 1 N, 2 V, 3 D.
 pub struct Stretch {
     pub year: u16,
     pub samples: u16,
-    pub moisture: Charts,
-    pub protein: Charts,
-    pub fat: Charts,
-    pub salt: Charts,
-}
-
-fn no_charts() -> Charts
-    ensures { λ r. ⌜ r ≡ noCharts ⌝ }
-{
-    let none = Chart { value: 0, first: 0 };
-    Charts {
-        p: none,
-        n: none,
-        v: none,
-        d: none,
-    }
+    pub charts: [Chart; CHARTS],
 }
 
 // No sample since admission: year 0, which no line has.
 pub fn no_samples() -> Stretch
     ensures { λ r. ⌜ r ≡ noSamples ⌝ }
 {
-    let none = no_charts();
+    let none = Chart { value: 0, first: 0 };
     Stretch {
         year: 0,
         samples: 0,
-        moisture: none,
-        protein: none,
-        fat: none,
-        salt: none,
+        charts: [none; CHARTS],
     }
 }
 
@@ -61,58 +42,62 @@ fn samples_before(s: Stretch, year: u16) -> u16
     if year == s.year { s.samples } else { 0 }
 }
 
-// What a reading contributes to its analyte's four charts.
-fn contribute_reading(product: u8, analyte: u8, mean: u16, reading: Reading) -> Contributions
-    requires { ⌜ (analyte < 4) × GoodMean (classOf product) analyte mean ⌝ }
-    ensures { λ x. ⌜ x ≡ contributionsFor product analyte mean reading ⌝ }
+// The charts after a sample with these differences, where `before` samples stand before it.
+fn move_charts(
+    c: Constants,
+    start: [Chart; CHARTS],
+    before: u16,
+    d: [Difference; ANALYTES],
+) -> [Chart; CHARTS]
+    requires { ⌜ (c .analytes ≤ ANALYTES) × (before < FULL) × ChartsRoomy (chartsIn c) start ⌝ }
+    ensures { λ r. ⌜ r ≡ eachBelow (chartsIn c) (movedBy c before d) start ⌝ }
 {
-    contribute(FOOD, difference(product, analyte, mean, reading))
+    let mut charts = start;
+    let mut a: usize = 0;
+    while a < c.analytes as usize {
+        let x = contribute(c, d[a]);
+        let first = EACH as usize * a;
+        charts[first] = step(charts[first], before, x.p);
+        charts[first + 1] = step(charts[first + 1], before, x.n);
+        charts[first + 2] = step(charts[first + 2], before, x.v);
+        charts[first + 3] = step(charts[first + 3], before, x.d);
+        a += 1;
+    }
+    charts
 }
 
 // The stretch after a sample, which opens a new one where the year is another.
-pub fn sampled(s: Stretch, r: Record) -> Stretch
-    requires { ⌜ (earlier s (r .year) < FULL) × StretchBounded s × GoodRecord r ⌝ }
-    ensures { λ t. ⌜ t ≡ sampledOf s (r .year) (contributedBy r) ⌝ }
+pub fn sampled(c: Constants, s: Stretch, year: u16, d: [Difference; ANALYTES]) -> Stretch
+    requires { ⌜ (c .analytes ≤ ANALYTES) × (earlier s year < FULL) × StretchBounded c s ⌝ }
+    ensures { λ t. ⌜ t ≡ sampledOf c s year d ⌝ }
 {
-    let n = samples_before(s, r.year);
-    let means = r.means;
-    let readings = r.readings;
-    let moisture = readings.moisture;
-    let protein = readings.protein;
-    let fat = readings.fat;
-    let salt = readings.salt;
+    let before = samples_before(s, year);
+    let old = s.charts;
+    let charts = move_charts(c, old, before, d);
     Stretch {
-        year: r.year,
-        samples: n + 1,
-        moisture: step_all(
-            s.moisture,
-            n,
-            contribute_reading(r.product, 0, means.moisture, moisture),
-        ),
-        protein: step_all(
-            s.protein,
-            n,
-            contribute_reading(r.product, 1, means.protein, protein),
-        ),
-        fat: step_all(s.fat, n, contribute_reading(r.product, 2, means.fat, fat)),
-        salt: step_all(
-            s.salt,
-            n,
-            contribute_reading(r.product, 3, means.salt, salt),
-        ),
+        year,
+        samples: before + 1,
+        charts,
     }
 }
 
-fn over_in(charts: Charts) -> bool
-    ensures { λ r. ⌜ r ≡ overIn charts ⌝ }
+// Whether a chart is over: its value is above its limit.
+pub fn is_over(c: Constants, n: u8, chart: Chart) -> bool
+    ensures { λ r. ⌜ r ≡ isOver c n chart ⌝ }
 {
-    let over = find_over(charts, FOOD);
-    over.p | over.n | over.v | over.d
+    chart.value > limit(c, n % EACH)
 }
 
 // Whether any chart is over.
-pub fn any_over(s: Stretch) -> bool
-    ensures { λ r. ⌜ r ≡ anyOver s ⌝ }
+pub fn any_over(c: Constants, charts: [Chart; CHARTS]) -> bool
+    requires { ⌜ c .analytes ≤ ANALYTES ⌝ }
+    ensures { λ r. ⌜ r ≡ anyOver c charts ⌝ }
 {
-    over_in(s.moisture) | over_in(s.protein) | over_in(s.fat) | over_in(s.salt)
+    let mut over = false;
+    let mut n: u8 = 0;
+    while n < EACH * c.analytes {
+        over = over | is_over(c, n, charts[n as usize]);
+        n += 1;
+    }
+    over
 }

@@ -1,32 +1,32 @@
 -- `answer` meets its contract: each byte is the one that its two digits write. Assumes nothing.
 use mathlib.Core.Path.{_≡_, sym, _∙_}
 use borrow.Author.Needs.{needs}
-use Rattle.line.specs.declared.digits.Hex.the-variants.{Value}
-use Rattle.case_standard.specs.Answer.{byteAt}
+use Rattle.digits.specs.declared.digit.Hex.the-variants.{Value}
+use Rattle.case_standard.specs.Answer.{pairAt}
 use Rattle.case_standard.proofs.answer.Statement.{statement}
 use Rattle.case_standard.proofs.answer.Tie as tie
 
 -- the six bytes
-got-0 : (c : tie.After-product) → byteAt (c .before .before .before .before .args .row .now) 0 ≡ Value (c .product .given .0 .0)
-got-0 c = sym (c .before .before .byte-at .ensures) ∙ c .product .given .1
+got-0 : (c : tie.After-product) → pairAt (c .before .before .before .before .args .row .now) 0 ≡ Value (c .product .given .0 .0)
+got-0 c = sym (c .before .before .pair-at .ensures) ∙ c .product .given .1
 
-got-1 : (c : tie.After-analyte) → byteAt (c .before .before .before .before .before .before .before .before .args .row .now) 1 ≡ Value (c .analyte .given .0 .0)
-got-1 c = sym (c .before .before .byte-at2 .ensures) ∙ c .analyte .given .1
+got-1 : (c : tie.After-analyte) → pairAt (c .before .before .before .before .before .before .before .before .args .row .now) 1 ≡ Value (c .analyte .given .0 .0)
+got-1 c = sym (c .before .before .pair-at2 .ensures) ∙ c .analyte .given .1
 
-got-2 : (c : tie.After-mean-high) → byteAt (c .before .before .before .before .before .before .before .before .before .before .before .before .args .row .now) 2 ≡ Value (c .mean-high .given .0 .0)
-got-2 c = sym (c .before .before .byte-at3 .ensures) ∙ c .mean-high .given .1
+got-2 : (c : tie.After-mean-high) → pairAt (c .before .before .before .before .before .before .before .before .before .before .before .before .args .row .now) 2 ≡ Value (c .mean-high .given .0 .0)
+got-2 c = sym (c .before .before .pair-at3 .ensures) ∙ c .mean-high .given .1
 
-got-3 : (c : tie.After-mean-low) → byteAt (c .before .before .before .before .before .before .before .before .before .before .before .before .before .before .before .before .args .row .now) 3 ≡ Value (c .mean-low .given .0 .0)
-got-3 c = sym (c .before .before .byte-at4 .ensures) ∙ c .mean-low .given .1
+got-3 : (c : tie.After-mean-low) → pairAt (c .before .before .before .before .before .before .before .before .before .before .before .before .before .before .before .before .args .row .now) 3 ≡ Value (c .mean-low .given .0 .0)
+got-3 c = sym (c .before .before .pair-at4 .ensures) ∙ c .mean-low .given .1
 
-got-4 : (c : tie.After-high) → byteAt (c .before .before .before .before .before .before .before .before .before .before .before .before .before .before .before .before .before .before .before .before .args .row .now) 4 ≡ Value (c .high .given .0 .0)
-got-4 c = sym (c .before .before .byte-at5 .ensures) ∙ c .high .given .1
+got-4 : (c : tie.After-high) → pairAt (c .before .before .before .before .before .before .before .before .before .before .before .before .before .before .before .before .before .before .before .before .args .row .now) 4 ≡ Value (c .high .given .0 .0)
+got-4 c = sym (c .before .before .pair-at5 .ensures) ∙ c .high .given .1
 
-got-5 : (c : tie.After-low) → byteAt (c .before .before .before .before .before .before .before .before .before .before .before .before .before .before .before .before .before .before .before .before .before .before .before .before .args .row .now) 5 ≡ Value (c .low .given .0 .0)
-got-5 c = sym (c .before .before .byte-at6 .ensures) ∙ c .low .given .1
+got-5 : (c : tie.After-low) → pairAt (c .before .before .before .before .before .before .before .before .before .before .before .before .before .before .before .before .before .before .before .before .before .before .before .before .args .row .now) 5 ≡ Value (c .low .given .0 .0)
+got-5 c = sym (c .before .before .pair-at6 .ensures) ∙ c .low .given .1
 
-byte-at-requires : tie.Need-byte-at-requires
-byte-at-requires c κs = search needs
+pair-at-requires : tie.Need-pair-at-requires
+pair-at-requires c κs = search needs
 
 enum-known-product : tie.Need-enum-known-product
 enum-known-product c = search needs
@@ -35,10 +35,10 @@ enum-told : tie.Need-enum-told
 enum-told c = search needs
 
 returns : tie.Need-returns
-returns c = rw (sym (c .before .before .byte-at .ensures) ∙ c .enum-told .given .1)
+returns c = rw (sym (c .before .before .pair-at .ensures) ∙ c .enum-told .given .1)
 
-byte-at-requires-2 : tie.Need-byte-at-requires-2
-byte-at-requires-2 c κs = search needs
+pair-at-requires-2 : tie.Need-pair-at-requires-2
+pair-at-requires-2 c κs = search needs
 
 enum-known-analyte : tie.Need-enum-known-analyte
 enum-known-analyte c = search needs
@@ -47,10 +47,10 @@ enum-told-2 : tie.Need-enum-told-2
 enum-told-2 c = search needs
 
 returns-2 : tie.Need-returns-2
-returns-2 c = rw (got-0 (c .before .before .before .before), sym (c .before .before .byte-at2 .ensures) ∙ c .enum-told2 .given .1)
+returns-2 c = rw (got-0 (c .before .before .before .before), sym (c .before .before .pair-at2 .ensures) ∙ c .enum-told2 .given .1)
 
-byte-at-requires-3 : tie.Need-byte-at-requires-3
-byte-at-requires-3 c κs = search needs
+pair-at-requires-3 : tie.Need-pair-at-requires-3
+pair-at-requires-3 c κs = search needs
 
 enum-known-mean-high : tie.Need-enum-known-mean-high
 enum-known-mean-high c = search needs
@@ -59,10 +59,10 @@ enum-told-3 : tie.Need-enum-told-3
 enum-told-3 c = search needs
 
 returns-3 : tie.Need-returns-3
-returns-3 c = rw (got-0 (c .before .before .before .before .before .before .before .before), got-1 (c .before .before .before .before), sym (c .before .before .byte-at3 .ensures) ∙ c .enum-told3 .given .1)
+returns-3 c = rw (got-0 (c .before .before .before .before .before .before .before .before), got-1 (c .before .before .before .before), sym (c .before .before .pair-at3 .ensures) ∙ c .enum-told3 .given .1)
 
-byte-at-requires-4 : tie.Need-byte-at-requires-4
-byte-at-requires-4 c κs = search needs
+pair-at-requires-4 : tie.Need-pair-at-requires-4
+pair-at-requires-4 c κs = search needs
 
 enum-known-mean-low : tie.Need-enum-known-mean-low
 enum-known-mean-low c = search needs
@@ -71,10 +71,10 @@ enum-told-4 : tie.Need-enum-told-4
 enum-told-4 c = search needs
 
 returns-4 : tie.Need-returns-4
-returns-4 c = rw (got-0 (c .before .before .before .before .before .before .before .before .before .before .before .before), got-1 (c .before .before .before .before .before .before .before .before), got-2 (c .before .before .before .before), sym (c .before .before .byte-at4 .ensures) ∙ c .enum-told4 .given .1)
+returns-4 c = rw (got-0 (c .before .before .before .before .before .before .before .before .before .before .before .before), got-1 (c .before .before .before .before .before .before .before .before), got-2 (c .before .before .before .before), sym (c .before .before .pair-at4 .ensures) ∙ c .enum-told4 .given .1)
 
-byte-at-requires-5 : tie.Need-byte-at-requires-5
-byte-at-requires-5 c κs = search needs
+pair-at-requires-5 : tie.Need-pair-at-requires-5
+pair-at-requires-5 c κs = search needs
 
 enum-known-high : tie.Need-enum-known-high
 enum-known-high c = search needs
@@ -83,10 +83,10 @@ enum-told-5 : tie.Need-enum-told-5
 enum-told-5 c = search needs
 
 returns-5 : tie.Need-returns-5
-returns-5 c = rw (got-0 (c .before .before .before .before .before .before .before .before .before .before .before .before .before .before .before .before), got-1 (c .before .before .before .before .before .before .before .before .before .before .before .before), got-2 (c .before .before .before .before .before .before .before .before), got-3 (c .before .before .before .before), sym (c .before .before .byte-at5 .ensures) ∙ c .enum-told5 .given .1)
+returns-5 c = rw (got-0 (c .before .before .before .before .before .before .before .before .before .before .before .before .before .before .before .before), got-1 (c .before .before .before .before .before .before .before .before .before .before .before .before), got-2 (c .before .before .before .before .before .before .before .before), got-3 (c .before .before .before .before), sym (c .before .before .pair-at5 .ensures) ∙ c .enum-told5 .given .1)
 
-byte-at-requires-6 : tie.Need-byte-at-requires-6
-byte-at-requires-6 c κs = search needs
+pair-at-requires-6 : tie.Need-pair-at-requires-6
+pair-at-requires-6 c κs = search needs
 
 enum-known-low : tie.Need-enum-known-low
 enum-known-low c = search needs
@@ -95,7 +95,7 @@ enum-told-6 : tie.Need-enum-told-6
 enum-told-6 c = search needs
 
 returns-6 : tie.Need-returns-6
-returns-6 c = rw (got-0 (c .before .before .before .before .before .before .before .before .before .before .before .before .before .before .before .before .before .before .before .before), got-1 (c .before .before .before .before .before .before .before .before .before .before .before .before .before .before .before .before), got-2 (c .before .before .before .before .before .before .before .before .before .before .before .before), got-3 (c .before .before .before .before .before .before .before .before), got-4 (c .before .before .before .before), sym (c .before .before .byte-at6 .ensures) ∙ c .enum-told6 .given .1)
+returns-6 c = rw (got-0 (c .before .before .before .before .before .before .before .before .before .before .before .before .before .before .before .before .before .before .before .before), got-1 (c .before .before .before .before .before .before .before .before .before .before .before .before .before .before .before .before), got-2 (c .before .before .before .before .before .before .before .before .before .before .before .before), got-3 (c .before .before .before .before .before .before .before .before), got-4 (c .before .before .before .before), sym (c .before .before .pair-at6 .ensures) ∙ c .enum-told6 .given .1)
 
 two-requires : tie.Need-two-requires
 two-requires c κs = search needs
@@ -113,27 +113,27 @@ pub answer-spec : {M : Type 1} → statement M
 answer-spec =
     tie.close
     (tie.spec
-    byte-at-requires
+    pair-at-requires
     enum-known-product
     enum-told
     returns
-    byte-at-requires-2
+    pair-at-requires-2
     enum-known-analyte
     enum-told-2
     returns-2
-    byte-at-requires-3
+    pair-at-requires-3
     enum-known-mean-high
     enum-told-3
     returns-3
-    byte-at-requires-4
+    pair-at-requires-4
     enum-known-mean-low
     enum-told-4
     returns-4
-    byte-at-requires-5
+    pair-at-requires-5
     enum-known-high
     enum-told-5
     returns-5
-    byte-at-requires-6
+    pair-at-requires-6
     enum-known-low
     enum-told-6
     returns-6

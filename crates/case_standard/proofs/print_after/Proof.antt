@@ -1,39 +1,22 @@
 -- `print_after` is safe: a number of 32 bits and its negation fit 64. Assumes nothing.
-use mathlib.Core.Path.{_≡_, _∙_, ap}
-use mathlib.Core.Bool.{true, false}
-use native.Mathlib.Omega.{arith}
 use lib.Dec.{T}
-use lib.IntN.{ℤ, pos, negsuc, natAbs, _-ℤ_}
-use lib.Signed.{ltZ, nonNeg}
+use lib.IntN.{ℤ, pos, natAbs, _-ℤ_}
+use lib.Signed.{nonNeg}
 use mir.Syntax.{w32, w64}
 use mir.Val.{Fits, SFits, toZ, ofZ}
 use mir.Facts.{toZ-ofZ, sfits-widen, fits-natAbs}
 use borrow.Author.Needs.{needs}
-use Rattle.laws.proofs.Order.{ltZ-true-in, ltZ-false-in}
+use Rattle.laws.proofs.Casts.{from-fits, from-back}
+use Rattle.laws.proofs.Signs.{not-below, turned-fits}
 use Rattle.case_standard.proofs.print_after.Statement.{statement}
 use Rattle.case_standard.proofs.print_after.Tie as tie
-
--- the number as the cast leaves it
-abbrev wide : ℤ → ℤ
-wide z = toZ w64 (ofZ w64 (toZ w32 (ofZ w32 z)))
-
-wide-is : (z : ℤ) → SFits w32 z → wide z ≡ z
-wide-is z s = ap (λ (y : ℤ). toZ w64 (ofZ w64 y)) (toZ-ofZ s) ∙ toZ-ofZ (sfits-widen tt s)
 
 -- what the cast to a u64 asks
 castable : (z : ℤ) → SFits w64 z → T (nonNeg z) → T (nonNeg (toZ w64 (ofZ w64 z))) × Fits w64 (natAbs (toZ w64 (ofZ w64 z)))
 castable z s t = rw (toZ-ofZ s) (t, fits-natAbs tt s)
 
-above : (z : ℤ) → ltZ z (pos 0) ≡ false → T (nonNeg z)
-above (pos n) e = tt
-above (negsuc n) e = absurd (omega (arith, ltZ-false-in (negsuc n) (pos 0) e))
-
-below : (z : ℤ) → SFits w32 z → ltZ z (pos 0) ≡ true → SFits w64 (pos 0 -ℤ z) × T (nonNeg (pos 0 -ℤ z))
-below (pos n) s e = absurd (omega (arith, ltZ-true-in (pos n) (pos 0) e))
-below (negsuc n) s e = (record { sfits = omega (arith, s .sfits) }, tt)
-
 cast-wide : tie.Need-cast-wide
-cast-wide c = rw (toZ-ofZ (c .fits .z)) (sfits-widen tt (c .fits .z))
+cast-wide c = from-fits w32 tt (c .args .z) (c .fits .z)
 
 slice-aggregate-write-all : tie.Need-slice-aggregate-write-all
 slice-aggregate-write-all c = search needs
@@ -45,14 +28,14 @@ sub-print-decimal : tie.Need-sub-print-decimal
 sub-print-decimal c =
     let z = c .before .before .before .args .z in
     let s = c .before .before .before .fits .z in
-    rw (wide-is z s) (below z s (rw (wide-is z s) at (c .before .before .if1 .taken)) .0)
+    rw (from-back w32 tt z s) (turned-fits z s (rw (from-back w32 tt z s) at (c .before .before .if1 .taken)) .0)
 
 cast-print-decimal : tie.Need-cast-print-decimal
 cast-print-decimal c =
     let z = c .before .before .before .args .z in
     let s = c .before .before .before .fits .z in
-    let b = below z s (rw (wide-is z s) at (c .before .before .if1 .taken)) in
-    rw (wide-is z s) (castable (pos 0 -ℤ z) (b .0) (b .1))
+    let b = turned-fits z s (rw (from-back w32 tt z s) at (c .before .before .if1 .taken)) in
+    rw (from-back w32 tt z s) (castable (pos 0 -ℤ z) (b .0) (b .1))
 
 print-decimal-requires : tie.Need-print-decimal-requires
 print-decimal-requires c κs = search needs
@@ -67,7 +50,7 @@ cast-print-decimal-2 : tie.Need-cast-print-decimal-2
 cast-print-decimal-2 c =
     let z = c .before .before .before .args .z in
     let s = c .before .before .before .fits .z in
-    rw (toZ-ofZ s) (castable z (sfits-widen tt s) (above z (rw (wide-is z s) at (c .before .before .if1 .left))))
+    rw (toZ-ofZ s) (castable z (sfits-widen tt s) (not-below z (rw (from-back w32 tt z s) at (c .before .before .if1 .left))))
 
 print-decimal-requires-2 : tie.Need-print-decimal-requires-2
 print-decimal-requires-2 c κs = search needs

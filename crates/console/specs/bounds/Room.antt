@@ -1,24 +1,6 @@
--- How many bytes the console's texts may take: two digits to a byte, and a newline.
-use Prim.Native.Nat.{ℕ, _+_, _*_}
-use Rattle.unit.specs.Claim.{CHARTS}
-
--- an answer has 2 bytes
-abbrev pub ANSWER : ℕ
-ANSWER = 5
-
--- the status line has 6
-abbrev pub STAGE : ℕ
-STAGE = 13
-
--- a chart's line has 9
-abbrev pub RUN : ℕ
-RUN = 19
-
-abbrev pub RUNS : ℕ
-RUNS = CHARTS * RUN
-
-abbrev pub STATUS : ℕ
-STATUS = STAGE + RUNS
+-- How many bytes the end may take.
+use Prim.Native.Nat.{ℕ, _+_}
+use Rattle.text.specs.bounds.Room.{ANSWER, STATUS}
 
 -- the unended line's answer, and the status
 abbrev pub FINAL : ℕ

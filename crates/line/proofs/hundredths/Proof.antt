@@ -1,6 +1,6 @@
 -- `hundredths` meets its contract, variant by variant. Assumes nothing.
 use mathlib.Core.Path.{sym, ap, _∙_}
-use Rattle.line.specs.Percent.{amountOf}
+use Rattle.line.specs.Amount.{amountOf}
 use borrow.Author.Needs.{needs}
 use Rattle.line.proofs.hundredths.Statement.{statement}
 use Rattle.line.proofs.hundredths.Tie as tie

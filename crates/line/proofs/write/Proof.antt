@@ -1,12 +1,12 @@
 -- `write` meets its contract: each return is a case of `writtenOf` and `bufferAfter`. Assumes nothing.
 use mathlib.Core.Path.{_≡_, sym, ap, _∙_, subst}
-use mathlib.Core.List.{List, _++_}
+use mathlib.Core.List.{List}
 use Prim.Native.Nat.{ℕ}
-use lib.ListN.{take, drop}
+use lib.ListN.{take}
 use lib.Seq.{take-at}
 use Rattle.rows.specs.Rows.{firstRow, Answers}
-use Rattle.line.specs.Digits.{lineLength, digitsOf}
-use Rattle.line.specs.Fields.{fieldsOf, bytesIn}
+use Rattle.digits.specs.Slices.{digitsAfter}
+use Rattle.line.specs.Fields.{lineLength, fieldsOf, bytesIn}
 use Rattle.line.specs.Inverse.{ReadsBack}
 use Rattle.line.specs.Read.{readOf}
 use Rattle.line.specs.Write.{lineOf, writeRows, writtenOf, bufferAfter, writtenRow, BufferKept}
@@ -14,7 +14,8 @@ use Rattle.line.specs.Refused.{fieldRows}
 use Rattle.line.specs.declared.fields.Fields.{Fields}
 use Rattle.line.specs.declared.record.Record.{Record}
 use Rattle.line.specs.declared.record.Written.{Written}
-use Rattle.line.proofs.ByteLaws.{length-digitsOf}
+use Rattle.digits.proofs.SliceLaws.{written-digits}
+use Rattle.digits.proofs.ByteLaws.{length-digitsOf}
 use Rattle.line.proofs.Inverse.{read-again}
 use Rattle.line.proofs.WriteLaws.{kept-short, kept-row, done, refused-done, write-first, write-kept}
 use borrow.Author.Needs.{needs}
@@ -64,21 +65,28 @@ returns-2 c =
 bytes-in-requires : tie.Need-bytes-in-requires
 bytes-in-requires c κs = search needs
 
-put-requires : tie.Need-put-requires
-put-requires c κs = search needs
+slice-aggregate-write-digits : tie.Need-slice-aggregate-write-digits
+slice-aggregate-write-digits c = search needs
+
+write-digits-requires : tie.Need-write-digits-requires
+write-digits-requires c κs = search needs
 
 same-length : tie.Need-same-length
 same-length c = search needs
 
 returns-3 : tie.Need-returns-3
 returns-3 c =
-    let at = c .before .before .before .before .before .before in
+    let at = c .before .before .before .before .before .before .before in
     let start = at .before .before .before .before .args in
-    let d = done (start .«record») (start .buffer .now) (at .before .before .if1 .left) (sym (row at) ∙ c .before .before .before .before .before .if2 .left) in
-    let bytes = c .before .before .before .before .bytes-in .ensures ∙ ap bytesIn (at .before .fields-of .ensures .0) in
-    let after = c .before .before .put .ensures ∙ ap (λ (b : List ℕ). digitsOf b ++ drop lineLength (start .buffer .now)) bytes in
+    let room = at .before .before .if1 .left in
+    let clean = sym (row at) ∙ c .before .before .before .before .before .before .if2 .left in
+    let d = done (start .«record») (start .buffer .now) room clean in
+    let bytes = c .before .before .before .before .before .bytes-in .ensures ∙ ap bytesIn (at .before .fields-of .ensures .0) in
+    let after = c .before .before .write-digits .ensures .1
+    ∙ ap (λ (b : List ℕ). digitsAfter b (start .buffer .now)) bytes
+    ∙ written-digits (bytesIn (fieldsOf (start .«record»))) (start .buffer .now) room in
     let first = take-at (lineOf (start .«record»)) _ lineLength (length-digitsOf (bytesIn (fieldsOf (start .«record»)))) in
-    let again = read-again (start .«record») (at .before .fields-of .ensures .1) (sym (row at) ∙ c .before .before .before .before .before .if2 .left) in
+    let again = read-again (start .«record») (at .before .fields-of .ensures .1) clean in
     clauses _ _ _ _ (d .0) (after ∙ d .1) (λ e. ap readOf (ap (take lineLength) after ∙ first) ∙ again)
 
 pub write-spec : {M : Type 1} → statement M
@@ -90,6 +98,7 @@ write-spec =
     first-row-requires
     returns-2
     bytes-in-requires
-    put-requires
+    slice-aggregate-write-digits
+    write-digits-requires
     same-length
     returns-3)

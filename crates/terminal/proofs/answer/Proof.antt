@@ -17,11 +17,11 @@ use Rattle.terminal.proofs.answer.Statement.{statement}
 use Rattle.terminal.proofs.answer.Tie as tie
 
 abbrev Inv-loop : tie.InvT-loop
-Inv-loop piece output₀ console₀ at₀ good₀ output console at good =
+Inv-loop console₀ piece output₀ at₀ good₀ console output at good =
     Reached console × (at ≤ length piece) × (FINAL ≤ length output) × (length output ≡ length output₀)
 
 abbrev μ-loop : tie.MeasureT-loop
-μ-loop piece output₀ console₀ at₀ good₀ output console at good = length piece - at
+μ-loop console₀ piece output₀ at₀ good₀ console output at good = length piece - at
 
 -- after a call of `feed`: something was taken, no more than there is, and what was written lies in the output
 pub record Moved (at taken written before : ℕ) (piece output : List ℕ) : Type 0 where

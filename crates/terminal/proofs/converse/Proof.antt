@@ -14,19 +14,16 @@ use Rattle.terminal.proofs.converse.Statement.{statement}
 use Rattle.terminal.proofs.converse.Tie as tie
 
 abbrev Inv-loop : tie.InvT-loop
-Inv-loop input₀ output₀ console₀ more₀ good₀ turns₀ input output console more good turns =
+Inv-loop console₀ input₀ output₀ more₀ good₀ turns₀ console input output more good turns =
     Reached console × (FINAL ≤ length output) × (length input ≡ length input₀) × (length output ≡ length output₀)
 
 abbrev μ-loop : tie.MeasureT-loop
-μ-loop input₀ output₀ console₀ more₀ good₀ turns₀ input output console more good turns = turns
+μ-loop console₀ input₀ output₀ more₀ good₀ turns₀ console input output more good turns = turns
 
 left : (c : tie.In-loop Inv-loop μ-loop) → 0 < c .before .loop .turns
 left c =
     let at = c .before .loop in
     ltb-true 0 (at .turns) (and-both (at .more) (ltb 0 (at .turns)) (c .loop-test .taken) .1)
-
-new-console-requires : tie.Need-new-console-requires Inv-loop μ-loop
-new-console-requires c κs = search needs
 
 loop-holds : tie.Need-loop-holds Inv-loop μ-loop
 loop-holds c = search needs
@@ -79,7 +76,6 @@ converse-spec =
     (tie.spec
     Inv-loop
     μ-loop
-    new-console-requires
     loop-holds
     take-turn-requires
     sub-turns

@@ -22,7 +22,7 @@ reached : (u : U.Unit) → u ≡ newUnit → (u ≡ newUnit) × Reached u
 reached u e = (e, ([], sym e))
 
 returns : tie.Need-returns
-returns c = reached _ (cc)
+returns c = reached _ (rw (c .before .before .empty-set .ensures, c .before .no-samples .ensures, c .no-misses .ensures))
 
 pub new-unit-spec : {M : Type 1} → statement M
 new-unit-spec = tie.close (tie.spec empty-set-requires no-samples-requires no-misses-requires returns)

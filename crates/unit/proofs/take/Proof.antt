@@ -1,31 +1,55 @@
 -- `take` meets its contract, by what `read` found; the unit that it hands back is one more line from the one that it was given, or that one. Assumes nothing.
-use mathlib.Core.Path.{_≡_, sym, ap, subst, _∙_}
+use mathlib.Core.Path.{_≡_, refl, sym, ap, subst, _∙_}
 use mathlib.Core.List.{List}
-use Prim.Native.Nat.{ℕ}
+use Prim.Native.Nat.{ℕ, zero, suc}
+use native.Mathlib.Omega.{arith}
 use denote.Ref.{now}
-use Rattle.unit.specs.Reached.{Reached}
-use Rattle.unit.specs.Event.{eventByte, eventRow}
-use Rattle.unit.specs.Take.{refusedOf, takenRecord, takenOf, takeRows}
-use Rattle.unit.specs.declared.Unit as U
-use Rattle.unit.specs.declared.Taken.{Taken}
-use Rattle.line.specs.Read.{readOf, numberOf}
-use Rattle.rows.specs.Rows.{Answers}
+use lib.Dec.{lit≤}
+use Rattle.difference.specs.Contribution.{food}
+use Rattle.line.specs.Fields.{recordOf}
+use Rattle.line.specs.Read.{fieldsAt, lineRows, readBy, readOf, numberOf}
 use Rattle.line.specs.declared.record.Record.{Record}
 use Rattle.line.specs.declared.record.Read.the-variants.{Whole, Refused as Unread}
-use Rattle.unit.proofs.GoodLaws.{good-record}
+use Rattle.line.proofs.Inverse.{read-is}
+use Rattle.rows.specs.Rows.{firstRow, Answers}
+use Rattle.rows.proofs.RowsLaws.{first-of-both, first-of-one}
+use Rattle.unit.specs.Event.{eventByte, eventRow}
+use Rattle.unit.specs.Food.{seenOf, foodChemistry}
+use Rattle.unit.specs.Reached.{Reached}
+use Rattle.unit.specs.Take.{refusedOf, unitRows, takenByRow, takenSeen, takenIn, takenOf, takeRows}
+use Rattle.unit.specs.bounds.Numbers.{GoodSeen}
+use Rattle.unit.specs.bounds.Records.{GoodRecord}
+use Rattle.unit.specs.declared.Unit as U
+use Rattle.unit.specs.declared.Taken.{Taken}
+use Rattle.unit.proofs.GoodLaws.{good-record, good-seen, food-sound}
 use Rattle.unit.proofs.Reach.{reached-bounded, reached-more}
 use Rattle.unit.proofs.Refusals.{refusal-keeps, first-row-given}
 use borrow.Author.Needs.{needs}
 use Rattle.unit.proofs.take.Statement.{statement}
 use Rattle.unit.proofs.take.Tie as tie
 
+-- a line that does not read
 unread : (u : U.Unit) (line : List ℕ) (n : ℕ) → readOf line ≡ Unread n → refusedOf u n ≡ takenOf u line
-unfolding takenOf
-unread u line n e = rw e
+unfolding readBy readOf takenIn
+unread u line n e = go (firstRow (lineRows line)) refl e
+  where
+    go : (k : ℕ) → firstRow (lineRows line) ≡ k → readBy k (recordOf (fieldsAt line)) ≡ Unread n
+        → refusedOf u n ≡ takenByRow (firstRow (takeRows u line)) food u (seenOf (recordOf (fieldsAt line)))
+    go zero q e = absurd (let z : _≡_ {A = ℕ} 0 1 = cc in omega arith)
+    go (suc k) q e =
+        ap (refusedOf u) (sym (ap numberOf e))
+        ∙ ap (λ (m : ℕ). takenByRow m food u (seenOf (recordOf (fieldsAt line)))) (sym (first-of-one (lineRows line) (unitRows u (seenOf (recordOf (fieldsAt line)))) k q))
 
-whole : (u : U.Unit) (line : List ℕ) (r : Record) → readOf line ≡ Whole r → takenRecord u r ≡ takenOf u line
-unfolding takenOf
-whole u line r e = rw e
+-- one that does
+good : (line : List ℕ) (r : Record) → readOf line ≡ Whole r → GoodRecord r
+good line r e = let p = read-is line r e in subst GoodRecord (sym (p .1)) (good-record line (p .0))
+
+whole : (u : U.Unit) (line : List ℕ) (r : Record) → readOf line ≡ Whole r → takenSeen food u (seenOf r) ≡ takenOf u line
+unfolding takenSeen takenIn
+whole u line r e =
+    let p = read-is line r e in
+    ap (λ (q : Record). takenSeen food u (seenOf q)) (p .1)
+    ∙ ap (λ (n : ℕ). takenByRow n food u (seenOf (recordOf (fieldsAt line)))) (sym (first-of-both (lineRows line) (unitRows u (seenOf (recordOf (fieldsAt line)))) (food-sound .own line) (p .0)))
 
 -- all promises from the first
 all : (u : U.Unit) (line : List ℕ) (t : Taken) → Reached u → t ≡ takenOf u line
@@ -33,7 +57,7 @@ all : (u : U.Unit) (line : List ℕ) (t : Taken) → Reached u → t ≡ takenOf
 all u line t r e = (
   e,
   subst (λ (s : Taken). Reached (s .unit) × ((eventByte (s .event) ≡ 0 → s .unit ≡ u) × Answers (takeRows u line) (eventRow (s .event)))) (sym e)
-      (reached-more u line r, (refusal-keeps u line, first-row-given u line)),
+      (reached-more u line r, (refusal-keeps u line, first-row-given foodChemistry u line (food-sound .all u line))),
 )
 
 read-requires : tie.Need-read-requires
@@ -62,17 +86,25 @@ returns c =
     ∙ ap (refusedOf u) (c .before .number-of .ensures ∙ ap numberOf told)
     ∙ unread u line _ (sym (c .before .before .before .before .read .ensures .0) ∙ told))
 
-take-record-requires : tie.Need-take-record-requires
-take-record-requires c κs =
-    let start = c .before .before .before .before .before in
-    (reached-bounded (start .args .unit) (start .pre), good-record (now (start .args .line)) _ (sym (c .before .before .before .read .ensures .0) ∙ c .before .answer .given .1))
+see-requires : tie.Need-see-requires
+see-requires c κs =
+    let a = c .before in
+    good (now (a .before .before .before .before .args .line)) _ (sym (a .before .before .read .ensures .0) ∙ a .answer .given .1)
+
+take-seen-requires : tie.Need-take-seen-requires
+take-seen-requires c κs =
+    let a = c .before .before in
+    let start = a .before .before .before .before in
+    (lit≤ tt, reached-bounded (start .args .unit) (start .pre), subst GoodSeen (sym (c .see .ensures)) (good-seen _ (good (now (start .args .line)) _ (sym (a .before .before .read .ensures .0) ∙ a .answer .given .1))))
 
 returns-2 : tie.Need-returns-2
 returns-2 c =
-    let start = c .before .before .before .before .before .before in
+    let a = c .before .before .before in
+    let start = a .before .before .before .before in
     let u = start .args .unit in
     let line = now (start .args .line) in
-    all u line _ (start .pre) (c .take-record .ensures ∙ whole u line _ (sym (c .before .before .before .before .read .ensures .0) ∙ c .before .before .answer .given .1))
+    all u line _ (start .pre)
+    (c .take-seen .ensures ∙ ap (takenSeen food u) (c .before .see .ensures) ∙ whole u line _ (sym (a .before .before .read .ensures .0) ∙ a .answer .given .1))
 
 pub take-spec : {M : Type 1} → statement M
 take-spec =
@@ -84,5 +116,6 @@ take-spec =
     number-of-requires
     refused-requires
     returns
-    take-record-requires
+    see-requires
+    take-seen-requires
     returns-2)

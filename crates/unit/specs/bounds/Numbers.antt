@@ -1,69 +1,53 @@
--- How far the numbers of a unit can go. Every unit that a list of lines leads to keeps to `Bounded`.
+-- How far the numbers of a line and of a unit can go. Every unit that a list of lines leads to keeps to `Bounded`.
 use Prim.Native.Nat.{ℕ, _+_, _*_, _≤_, _<_}
+use mathlib.Core.Path.{_≡_}
+use mathlib.Core.List.{List}
 use lib.IntN.{ℤ, natAbs}
-use Rattle.line.specs.Refused.{LAST-YEAR}
-use Rattle.unit.specs.Difference.{CAP}
-use Rattle.unit.specs.Stretch.{FULL}
-use Rattle.unit.specs.Study.{SET}
+use lib.ListN.{length}
+use Rattle.line.specs.Refused.{FIRST-YEAR, LAST-YEAR}
+use Rattle.unit.specs.Category.{ANALYTES, CHARTS}
+use Rattle.unit.specs.Charts.{chartsIn, differenceAt}
+use Rattle.difference.specs.Difference.{CAP}
+use Rattle.difference.specs.bounds.Numbers.{LARGEST}
+use Rattle.unit.specs.Set.{sumsAt}
+use Rattle.unit.specs.Stretch.{FULL, chartAt}
+use Rattle.study.specs.Study.{SET}
 use Rattle.unit.specs.declared.Unit as U
-use Rattle.unit.specs.declared.chart.Charts.{Charts}
-use Rattle.unit.specs.declared.contribution.Contributions.{Contributions}
-use Rattle.unit.specs.Sample.{Contributed}
-use Rattle.unit.specs.declared.sample.Differences.{Differences}
+use Rattle.unit.specs.declared.chart.Chart.{Chart}
+use Rattle.difference.specs.declared.constants.Constants.{Constants}
+use Rattle.difference.specs.declared.difference.Difference.{Difference}
+use Rattle.unit.specs.declared.seen.Seen.{Seen}
 use Rattle.unit.specs.declared.set.Set.{Set}
 use Rattle.unit.specs.declared.stretch.Stretch.{Stretch}
-use Rattle.unit.specs.declared.study.Sums.{Sums}
+use Rattle.study.specs.declared.Sums.{Sums}
 
 -- differences are capped
-pub record Capped (d : Differences) : Type 0 where
-  pub moisture : natAbs (d .moisture .tenths) ≤ CAP
-  pub protein : natAbs (d .protein .tenths) ≤ CAP
-  pub fat : natAbs (d .fat .tenths) ≤ CAP
-  pub salt : natAbs (d .salt .tenths) ≤ CAP
+abbrev pub Capped : List Difference → Type 0
+Capped ds = (a : ℕ) → natAbs (differenceAt ds a) ≤ CAP
 
--- the largest size of a contribution, and the largest measure
-abbrev pub LARGEST : ℕ
-LARGEST = 10000
+-- a line that reads: its month is one of its year, which is one of a line's
+pub record GoodSeen (x : Seen) : Type 0 where
+  pub year : FIRST-YEAR ≤ x .year
+  pub late : x .year ≤ LAST-YEAR
+  pub month : 12 * x .year < x .month
+  pub december : x .month ≤ 12 * x .year + 12
+  pub capped : Capped (x .differences)
 
-abbrev pub Moderate : ℤ → Type 0
-Moderate x = natAbs x ≤ LARGEST
+-- the first n charts after so many samples of a stretch
+abbrev pub ChartsBounded : ℕ → ℕ → List Chart → Type 0
+ChartsBounded n samples charts = (i : ℕ) → i < n → natAbs (chartAt charts i .value) ≤ LARGEST * samples
 
-pub record AllModerate (x : Contributions) : Type 0 where
-  pub p : Moderate (x .p)
-  pub n : Moderate (x .n)
-  pub v : Moderate (x .v)
-  pub d : Moderate (x .d)
-
--- those of all four analytes
-pub record EachModerate (x : Contributed) : Type 0 where
-  pub moisture : AllModerate (x .moisture)
-  pub protein : AllModerate (x .protein)
-  pub fat : AllModerate (x .fat)
-  pub salt : AllModerate (x .salt)
-
--- the charts of an analyte after so many samples of a stretch
-pub record ChartsBounded (samples : ℕ) (charts : Charts) : Type 0 where
-  pub p : natAbs (charts .p .value) ≤ LARGEST * samples
-  pub n : natAbs (charts .n .value) ≤ LARGEST * samples
-  pub v : natAbs (charts .v .value) ≤ LARGEST * samples
-  pub d : natAbs (charts .d .value) ≤ LARGEST * samples
-
-pub record StretchBounded (s : Stretch) : Type 0 where
+pub record StretchBounded (c : Constants) (s : Stretch) : Type 0 where
   pub samples : s .samples ≤ FULL
-  pub moisture : ChartsBounded (s .samples) (s .moisture)
-  pub protein : ChartsBounded (s .samples) (s .protein)
-  pub fat : ChartsBounded (s .samples) (s .fat)
-  pub salt : ChartsBounded (s .samples) (s .salt)
+  pub room : length (s .charts) ≡ CHARTS
+  pub charts : ChartsBounded (chartsIn c) (s .samples) (s .charts)
 
--- the charts of an analyte at any time
+-- a chart at any time
 abbrev pub Roomy : ℤ → Type 0
 Roomy value = natAbs value ≤ LARGEST * FULL
 
-pub record AllRoomy (c : Charts) : Type 0 where
-  pub p : Roomy (c .p .value)
-  pub n : Roomy (c .n .value)
-  pub v : Roomy (c .v .value)
-  pub d : Roomy (c .d .value)
+abbrev pub ChartsRoomy : ℕ → List Chart → Type 0
+ChartsRoomy n charts = (i : ℕ) → i < n → Roomy (chartAt charts i .value)
 
 -- the sums of n differences, each capped
 pub record SumsBounded (n : ℕ) (sums : Sums) : Type 0 where
@@ -71,19 +55,21 @@ pub record SumsBounded (n : ℕ) (sums : Sums) : Type 0 where
   pub q : sums .q ≤ CAP * CAP * n
   pub g : sums .g ≤ LARGEST * n
 
+-- those of each analyte
+abbrev pub AllBounded : ℕ → List Sums → Type 0
+AllBounded n sums = (a : ℕ) → SumsBounded n (sumsAt sums a)
+
 -- those of a set are of its lines so far
 pub record SetBounded (s : Set) : Type 0 where
-  pub moisture : SumsBounded (s .lines) (s .moisture)
-  pub protein : SumsBounded (s .lines) (s .protein)
-  pub fat : SumsBounded (s .lines) (s .fat)
-  pub salt : SumsBounded (s .lines) (s .salt)
+  pub room : length (s .sums) ≡ ANALYTES
+  pub sums : AllBounded (s .lines) (s .sums)
 
 -- December of the last year
 abbrev pub LAST-MONTH : ℕ
 LAST-MONTH = 12 * LAST-YEAR + 12
 
-pub record Bounded (u : U.Unit) : Type 0 where
+pub record Bounded (c : Constants) (u : U.Unit) : Type 0 where
   pub lines : u .set .lines < SET
   pub sums : SetBounded (u .set)
-  pub stretch : StretchBounded (u .stretch)
+  pub stretch : StretchBounded c (u .stretch)
   pub miss : u .misses .last ≤ LAST-MONTH

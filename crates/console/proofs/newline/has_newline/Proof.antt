@@ -8,7 +8,7 @@ use denote.Ref.{now}
 use lib.Dec.{eqb}
 use lib.ListN.{length, take, getD}
 use lib.Seq.{take-all}
-use Rattle.console.specs.Text.{NEWLINE}
+use Rattle.text.specs.Text.{NEWLINE}
 use Rattle.console.specs.Lines.{hasNewline}
 use Rattle.console.proofs.PartLaws.{has-more}
 use Rattle.console.proofs.newline.has_newline.Statement.{statement}

@@ -1,6 +1,6 @@
--- `bytes_in` meets its contract: the parts fill the 34 places. Assumes nothing.
-use borrow.Author.Needs.{needs}
+-- `bytes_in` meets its contract, part by part. Assumes nothing.
 use Rattle.line.proofs.FieldLaws.{filled}
+use borrow.Author.Needs.{needs}
 use Rattle.line.proofs.fields.bytes_in.Statement.{statement}
 use Rattle.line.proofs.fields.bytes_in.Tie as tie
 
@@ -44,7 +44,9 @@ put5-requires-4 : tie.Need-put5-requires-4
 put5-requires-4 c κs = search needs
 
 returns : tie.Need-returns
-returns c = filled (c .before .before .before .before .before .before .before .before .before .args .f) (c .before .before .before .before .before .before .before .before .put2 .ensures) (c .before .before .before .before .before .before .before .put22 .ensures) (c .before .before .before .before .before .before .put23 .ensures) (c .before .before .before .before .before .put24 .ensures) (c .before .before .before .before .put25 .ensures) (c .before .before .before .put5 .ensures) (c .before .before .put52 .ensures) (c .before .put53 .ensures) (c .put54 .ensures)
+returns c =
+    filled (c .before .before .before .before .before .before .before .before .before .args .f) (c .before .before .before .before .before .before .before .before .put2 .ensures) (c .before .before .before .before .before .before .before .put22 .ensures) (c .before .before .before .before .before .before .put23 .ensures) (c .before .before .before .before .before .put24 .ensures) (c .before .before .before .before .put25 .ensures)
+    (c .before .before .before .put5 .ensures) (c .before .before .put52 .ensures) (c .before .put53 .ensures) (c .put54 .ensures)
 
 pub bytes-in-spec : {M : Type 1} → statement M
 bytes-in-spec =

@@ -2,7 +2,8 @@
 use borrow.Author.Needs.{needs}
 use borrow.Author.Tests.{eq-eqb, ne-eqb}
 use Rattle.line.specs.Fields.{readingOf}
-use Rattle.line.proofs.RowLaws.{good-reading, percent-bits, not-nan}
+use Rattle.percent.proofs.PercentLaws.{percent-bits, not-nan}
+use Rattle.line.proofs.RowLaws.{good-reading}
 use Rattle.line.proofs.fields.reading_of.Statement.{statement}
 use Rattle.line.proofs.fields.reading_of.Tie as tie
 

@@ -3,8 +3,8 @@ use borrow.Author.Needs.{needs}
 use Rattle.line.proofs.fields.tagged_at.Statement.{statement}
 use Rattle.line.proofs.fields.tagged_at.Tie as tie
 
-array-read-t6 : tie.Need-array-read-t6
-array-read-t6 c = search needs
+byte-at-requires : tie.Need-byte-at-requires
+byte-at-requires c κs = search needs
 
 add-four-at : tie.Need-add-four-at
 add-four-at c = search needs
@@ -13,7 +13,7 @@ four-at-requires : tie.Need-four-at-requires
 four-at-requires c κs = search needs
 
 returns : tie.Need-returns
-returns c = rw (c .four-at .ensures)
+returns c = rw (c .before .byte-at .ensures, c .four-at .ensures)
 
 pub tagged-at-spec : {M : Type 1} → statement M
-tagged-at-spec = tie.close (tie.spec array-read-t6 add-four-at four-at-requires returns)
+tagged-at-spec = tie.close (tie.spec byte-at-requires add-four-at four-at-requires returns)

@@ -1,37 +1,37 @@
--- `entered` meets its contract, analyte by analyte. Assumes nothing.
+-- `entered` meets its contract: a set that is not full leaves room in each sum. Assumes nothing.
 use mathlib.Core.Path.{_≡_}
+use mathlib.Core.List.{List}
+use Prim.Native.Nat.{_+_}
 use native.Mathlib.Numerals.{add-one}
-use Prim.Native.Nat.{ℕ, suc, _+_}
-use borrow.Author.Needs.{needs}
+use native.Mathlib.Omega.{arith}
+use Rattle.difference.specs.declared.constants.Constants.{Constants}
+use Rattle.difference.specs.declared.difference.Difference.{Difference}
+use Rattle.laws.specs.Each.{eachBelow}
+use Rattle.unit.specs.Set.{enteredBy, enteredOf}
 use Rattle.unit.specs.declared.set.Set.{Set}
-use Rattle.unit.specs.declared.study.Sums.{Sums}
+use Rattle.study.specs.declared.Sums.{Sums}
+use Rattle.unit.proofs.SumsLaws.{looser}
+use borrow.Author.Needs.{needs}
 use Rattle.unit.proofs.set.entered.Statement.{statement}
 use Rattle.unit.proofs.set.entered.Tie as tie
 
-add-t3 : tie.Need-add-t3
-add-t3 c = search needs
-
-add-requires : tie.Need-add-requires
-add-requires c κs = search needs
-
-add-requires-2 : tie.Need-add-requires-2
-add-requires-2 c κs = search needs
-
-add-requires-3 : tie.Need-add-requires-3
-add-requires-3 c κs = search needs
-
-add-requires-4 : tie.Need-add-requires-4
-add-requires-4 c κs = search needs
-
 -- a set from its parts
-gathered : (n : ℕ) {m p f t m′ p′ f′ t′ : Sums} → m ≡ m′ → p ≡ p′ → f ≡ f′ → t ≡ t′
-    → _≡_ {A = Set} (record { lines = n + 1; moisture = m; protein = p; fat = f; salt = t }) (record { lines = suc n; moisture = m′; protein = p′; fat = f′; salt = t′ })
-gathered n em ep ef et = rw (em, ep, ef, et, add-one n)
+assembled : (c : Constants) (s : Set) (ds : List Difference) {sums : List Sums} → sums ≡ eachBelow (c .analytes) (enteredBy ds) (s .sums)
+    → record { lines = s .lines + 1; sums = sums } ≡ enteredOf c s ds
+assembled c s ds e = rw (e, add-one (s .lines))
+
+add-all-requires : tie.Need-add-all-requires
+add-all-requires c κs =
+    let s = c .before in
+    (s .pre .0, (λ a. looser _ (omega (arith, s .pre .1)) (s .pre .2 .sums a)), s .pre .3)
+
+add-t6 : tie.Need-add-t6
+add-t6 c = search needs
 
 returns : tie.Need-returns
 returns c =
-    gathered (c .before .before .before .before .before .args .s .lines) (c .before .before .before .add .ensures) (c .before .before .add2 .ensures) (c .before .add3 .ensures) (c .add4 .ensures)
+    let a = c .before .before .before .args in
+    assembled (a .c) (a .s) (a .d) (c .before .add-all .ensures)
 
 pub entered-spec : {M : Type 1} → statement M
-entered-spec =
-    tie.close (tie.spec add-t3 add-requires add-requires-2 add-requires-3 add-requires-4 returns)
+entered-spec = tie.close (tie.spec add-all-requires add-t6 returns)

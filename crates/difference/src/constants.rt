@@ -1,0 +1,18 @@
+// What an analyte category goes by: how many analytes it has, and for the charts P and N of systematic
+// difference the turning points, the shift and the limit, in tenths.
+pub struct Constants {
+    pub analytes: u8,
+    pub high: u8,
+    pub low: u8,
+    pub shift: u8,
+    pub limit: u8,
+}
+
+// Food chemistry.
+pub const FOOD: Constants = Constants {
+    analytes: 4,
+    high: 24,
+    low: 16,
+    shift: 4,
+    limit: 52,
+};

@@ -1,0 +1,10 @@
+// One reading on its own: its standardizing value, its difference from the mean, and what it contributes to the charts.
+mod coefficient;
+pub mod constants;
+pub mod contribution;
+pub mod difference;
+mod distance;
+mod powers;
+mod root;
+pub mod standardize;
+mod value;

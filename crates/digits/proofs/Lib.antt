@@ -1,0 +1,7 @@
+-- Laws of the definitions in specs/, cited by the functions' proofs and by the crates above.
+pub mod ByteLaws
+pub mod DigitLaws
+pub mod LoopLaws
+pub mod NumberLaws
+pub mod SignedLaws
+pub mod SliceLaws

@@ -1,0 +1,84 @@
+-- What the loops over digits and bytes leave, turn by turn. Assumes nothing.
+use Prim.Native.Nat.{ℕ, zero, suc, _+_, _*_, _<_}
+use mathlib.Core.Path.{_≡_, refl, sym, ap, _∙_}
+use mathlib.Core.Bool.{true, _&&_, and-true, and-assoc}
+use mathlib.Core.List.{List, [], _∷_, _++_, append-assoc}
+use native.Mathlib.Numerals.{add-one}
+use native.Mathlib.Omega.{arith}
+use lib.ListN.{length, getD, set, take, drop, length-append}
+use lib.Seq.{take-suc, drop-cons, append-snoc, set-at, length-take-le, ext-getD, getD-set-same, getD-set-other}
+use borrow.Author.Count.{below-more}
+use Rattle.laws.proofs.Bools.{and-both}
+use Rattle.laws.proofs.Gathered.{with-the-next, each}
+use Rattle.digits.specs.Digits.{isDigit, highDigit, lowDigit, areDigits, bytesOf, digitsOf}
+use Rattle.digits.specs.bounds.Part.{pairAt, ReadTo}
+use Rattle.digits.proofs.ByteLaws.{length-bytesOf, length-digitsOf, digitsOf-append}
+
+-- ---- characters looked at in turn
+
+-- the first i are digits, and the next is one
+pub are-more : (l : List ℕ) (i : ℕ) → i < length l → (areDigits (take i l) && isDigit (getD l i 0)) ≡ areDigits (take (i + 1) l)
+unfolding areDigits
+are-more = with-the-next _&&_ true (λ b. refl) and-true and-assoc isDigit areDigits refl (λ c l. refl) 0
+
+-- each of them is one
+pub digit-at : (l : List ℕ) (k : ℕ) → areDigits l ≡ true → k < length l → isDigit (getD l k 0) ≡ true
+unfolding areDigits
+digit-at = each _&&_ true (λ b. refl) and-true and-assoc isDigit areDigits refl (λ c l. refl) and-both 0
+
+-- ---- the byte that digits 2 k and 2 k + 1 write
+
+pair-tail : (c d : ℕ) (l : List ℕ) (k : ℕ) → pairAt (c ∷ d ∷ l) (suc k) ≡ pairAt l k
+pair-tail c d l k =
+    let e : 2 * suc k ≡ suc (suc (2 * k)) = omega arith in
+    let g : 2 * suc k + 1 ≡ suc (suc (2 * k + 1)) = omega arith in
+    rw (g, e)
+
+bytesOf-at : (l : List ℕ) (k : ℕ) → 2 * k + 1 < length l → getD (bytesOf l) k 0 ≡ pairAt l k
+unfolding bytesOf
+bytesOf-at [] k p = absurd (omega arith)
+bytesOf-at (c ∷ []) k p = absurd (omega arith)
+bytesOf-at (c ∷ d ∷ l) zero p = refl
+bytesOf-at (c ∷ d ∷ l) (suc k) p = bytesOf-at l k (omega arith) ∙ sym (pair-tail c d l k)
+
+pub bytes-are : (l bytes : List ℕ) (n : ℕ) → length l ≡ 2 * n → length bytes ≡ n → ReadTo l n bytes → bytes ≡ bytesOf l
+bytes-are l bytes n e m h =
+    ext-getD 0 bytes (bytesOf l) (m ∙ sym (length-bytesOf l n e)) (λ k p. h k (omega arith) ∙ sym (bytesOf-at l k (omega arith)))
+
+-- ---- a loop that puts one entry after the other, each by the rule f
+
+pub entry-more : (f : ℕ → ℕ) (xs : List ℕ) (i x : ℕ) → i < length xs → ((k : ℕ) → k < i → getD xs k 0 ≡ f k) → x ≡ f i
+    → (k : ℕ) → k < i + 1 → getD (set xs i x) k 0 ≡ f k
+entry-more f xs i x p h e =
+    below-more (λ (k : ℕ). getD (set xs i x) k 0 ≡ f k) i
+    (λ k q. getD-set-other xs i k x 0 (λ (s : k ≡ i). omega arith) ∙ h k q)
+    (getD-set-same xs i x 0 p ∙ e)
+
+-- ---- the loop that writes the digits in turn: the first i bytes' digits stand before what the buffer held
+
+abbrev pub writtenTo : List ℕ → List ℕ → ℕ → List ℕ
+writtenTo bytes buffer i = digitsOf (take i bytes) ++ drop (2 * i) buffer
+
+two-more : (x y : ℕ) (D ys : List ℕ) (n h l : ℕ) → length D ≡ n → set (set (D ++ x ∷ y ∷ ys) n h) (n + 1) l ≡ D ++ (h ∷ l ∷ []) ++ ys
+two-more x y D ys n h l e =
+    ap (λ (b : List ℕ). set b (n + 1) l) (set-at D x (y ∷ ys) h n e ∙ sym (append-snoc D h (y ∷ ys)))
+    ∙ set-at (D ++ (h ∷ [])) y ys l (n + 1) (length-append D (h ∷ []) ∙ ap (λ (m : ℕ). m + 1) e)
+    ∙ sym (append-assoc (D ++ (h ∷ [])) (l ∷ []) ys)
+    ∙ ap (λ (b : List ℕ). b ++ ys) (append-assoc D (h ∷ []) (l ∷ []))
+
+pub write-more : (bytes buffer : List ℕ) (i h l : ℕ) → i < length bytes → 2 * i + 1 < length buffer
+    → h ≡ highDigit (getD bytes i 0) → l ≡ lowDigit (getD bytes i 0)
+    → set (set (writtenTo bytes buffer i) (2 * i) h) (2 * i + 1) l ≡ writtenTo bytes buffer (i + 1)
+unfolding digitsOf
+write-more bytes buffer i h l p q e f =
+    let D = digitsOf (take i bytes) in
+    let rest = drop (suc (suc (2 * i))) buffer in
+    let long : length D ≡ 2 * i = length-digitsOf (take i bytes) ∙ ap (λ (n : ℕ). 2 * n) (length-take-le i bytes (omega arith)) in
+    let cut : drop (2 * i) buffer ≡ getD buffer (2 * i) 0 ∷ getD buffer (suc (2 * i)) 0 ∷ rest =
+    drop-cons buffer (2 * i) 0 (omega arith) ∙ ap (λ (r : List ℕ). getD buffer (2 * i) 0 ∷ r) (drop-cons buffer (suc (2 * i)) 0 (omega arith)) in
+    let digits : D ++ (h ∷ l ∷ []) ≡ digitsOf (take (i + 1) bytes) = rw (add-one i, take-suc bytes i 0 p, digitsOf-append (take i bytes) (getD bytes i 0 ∷ []), e, f) in
+    let after : suc (suc (2 * i)) ≡ 2 * (i + 1) = omega arith in
+    ap (λ (r : List ℕ). set (set (D ++ r) (2 * i) h) (2 * i + 1) l) cut
+    ∙ two-more (getD buffer (2 * i) 0) (getD buffer (suc (2 * i)) 0) D rest (2 * i) h l long
+    ∙ ap (λ (d : List ℕ). d ++ rest) digits
+    ∙ ap (λ (n : ℕ). digitsOf (take (i + 1) bytes) ++ drop n buffer) after

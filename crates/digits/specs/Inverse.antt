@@ -1,0 +1,31 @@
+-- Laws: digits and bytes, numbers and bytes, signed numbers and bytes: each is the other's inverse, at every length and width.
+use Prim.Native.Nat.{ℕ, suc, _*_, _<_}
+use mathlib.Core.Path.{_≡_}
+use mathlib.Core.Bool.{true}
+use mathlib.Core.List.{List, _∷_}
+use lib.IntN.{ℤ}
+use lib.ListN.{length}
+use lib.Signed.{mag}
+use Rattle.digits.specs.Digits.{areDigits, bytesOf, digitsOf}
+use Rattle.digits.specs.Numbers.{AreBytes, numberOf, numberBytes}
+use Rattle.digits.specs.Signed.{half, signedOf, signedBytes}
+
+abbrev pub DigitsBack : Type 0
+DigitsBack = (digits : List ℕ) (n : ℕ) → length digits ≡ 2 * n → areDigits digits ≡ true → digitsOf (bytesOf digits) ≡ digits
+
+abbrev pub BytesBack : Type 0
+BytesBack = (bytes : List ℕ) → AreBytes bytes → bytesOf (digitsOf bytes) ≡ bytes
+
+-- of one byte or more
+abbrev pub NumberBack : Type 0
+NumberBack = (width n : ℕ) → numberOf (numberBytes (suc width) n) ≡ n
+
+abbrev pub NumberBytesBack : Type 0
+NumberBytesBack = (bytes : List ℕ) → AreBytes bytes → numberBytes (length bytes) (numberOf bytes) ≡ bytes
+
+-- of one byte or more; `mag z` is z, or - z - 1 where z is negative: from - half to half - 1
+abbrev pub SignedBack : Type 0
+SignedBack = (width : ℕ) (z : ℤ) → mag z < half (suc width) → signedOf (signedBytes (suc width) z) ≡ z
+
+abbrev pub SignedBytesBack : Type 0
+SignedBytesBack = (b : ℕ) (bs : List ℕ) → AreBytes (b ∷ bs) → signedBytes (suc (length bs)) (signedOf (b ∷ bs)) ≡ b ∷ bs

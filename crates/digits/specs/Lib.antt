@@ -1,0 +1,7 @@
+-- Lowercase hexadecimal digits and the bytes that they write, slices of them, and numbers of a few bytes, the high byte first.
+pub mod Digits
+pub mod Slices
+pub mod Numbers
+pub mod Signed
+pub mod Inverse
+pub mod bounds

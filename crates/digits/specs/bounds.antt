@@ -1,0 +1,2 @@
+-- What the proofs need of the code's numbers, and no part of what digits are.
+pub mod Part

@@ -1,0 +1,2 @@
+-- Definitions that know nothing of laboratories.
+pub mod Each

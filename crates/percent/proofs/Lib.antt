@@ -1,0 +1,3 @@
+-- Laws of the definitions in specs/, cited by the functions' proofs and by the crates above.
+pub mod HundredthLaws
+pub mod PercentLaws

@@ -1,0 +1,13 @@
+// Whether a buffer has room.
+ghost use mathlib.Core.Path.{_≡_};
+ghost use Rattle.text.specs.Buffer.{roomFrom};
+
+pub fn has_room(length: usize, at: usize, size: usize) -> bool
+    ensures { λ r. ⌜ r ≡ roomFrom size length at ⌝ }
+{
+    if at <= length {
+        size <= length - at
+    } else {
+        false
+    }
+}

@@ -1,0 +1,16 @@
+-- A line longer than any that reads is refused for its length, whatever stands in it. Assumes nothing.
+use Prim.Native.Nat.{ℕ, _<_}
+use mathlib.Core.Path.{_≡_}
+use mathlib.Core.List.{List}
+use native.Mathlib.Omega.{arith}
+use borrow.Author.Tests.{ne-eqb}
+use lib.ListN.{length}
+use Rattle.line.specs.Fields.{lineLength}
+use Rattle.line.specs.Refused.{LENGTH}
+use Rattle.rows.specs.Rows.{firstRow}
+use Rattle.unit.specs.Take.{refusedOf, takenIn, takenOf}
+use Rattle.unit.specs.declared.Unit as U
+
+pub refused-long : (u : U.Unit) (line : List ℕ) → lineLength < length line → takenOf u line ≡ refusedOf u LENGTH
+unfolding firstRow takenIn
+refused-long u line h = rw (ne-eqb (length line) lineLength (λ e. omega arith))

@@ -1,0 +1,38 @@
+-- What the unit needs of a category, and what no row that fits says of a line. Assumes nothing.
+use Prim.Native.Nat.{ℕ, zero, suc, _≤_}
+use mathlib.Core.Path.{_≡_, refl, sym, _∙_}
+use mathlib.Core.Bool.{true}
+use mathlib.Core.List.{List}
+use native.Mathlib.Omega.{arith}
+use Rattle.difference.proofs.Bounds.{Fits}
+use Rattle.rows.specs.Rows.{firstRow, distinct}
+use Rattle.rows.proofs.RowsLaws.{first-of-both, first-of-one}
+use Rattle.unit.specs.Category.{Category, ANALYTES}
+use Rattle.unit.specs.Take.{unitRows, rowsIn}
+use Rattle.unit.specs.bounds.Numbers.{GoodSeen}
+use Rattle.unit.specs.declared.Unit as U
+
+pub record Sound (g : Category) : Type 0 where
+  -- its analytes and its numbers fit
+  pub few : g .constants .analytes ≤ ANALYTES
+  pub fits : Fits (g .constants)
+  -- a line that reads has a date of a line, and capped differences
+  pub good : (line : List ℕ) → firstRow (g .rows line) ≡ 0 → GoodSeen (g .seen line)
+  -- its rows are a table, by themselves and with rows 8 to 12
+  pub own : (line : List ℕ) → distinct (g .rows line) ≡ true
+  pub all : (u : U.Unit) (line : List ℕ) → distinct (rowsIn g u line) ≡ true
+
+-- where no row fits, the line reads and none of rows 8 to 12 fits
+pub record Clear (g : Category) (u : U.Unit) (line : List ℕ) : Type 0 where
+  pub reads : firstRow (g .rows line) ≡ 0
+  pub unit : firstRow (unitRows u (g .seen line)) ≡ 0
+
+module _ (g : Category) (sound : Sound g) (u : U.Unit) (line : List ℕ) where
+  reading : (n : ℕ) → firstRow (g .rows line) ≡ n → firstRow (rowsIn g u line) ≡ 0 → firstRow (g .rows line) ≡ 0
+  reading zero e z = e
+  reading (suc n) e z = absurd (let both : suc n ≡ 0 = sym (first-of-one (g .rows line) (unitRows u (g .seen line)) n e) ∙ z in omega arith)
+
+  pub clear : firstRow (rowsIn g u line) ≡ 0 → Clear g u line
+  clear z =
+      let r = reading (firstRow (g .rows line)) refl z in
+      record { reads = r; unit = sym (first-of-both (g .rows line) (unitRows u (g .seen line)) (sound .own line) r) ∙ z }
