@@ -4,7 +4,7 @@ use mathlib.Core.List.{List, [], _∷_}
 use lib.ListN.{getD}
 use Rattle.digits.specs.Digits.{byteIn}
 use Rattle.digits.specs.Numbers.{numberOf}
-use Rattle.line.specs.Refused.{DIGIT}
+use Rattle.rows.specs.Refusal.{DIGIT}
 use Rattle.digits.specs.declared.digit.Hex.{Hex}
 use Rattle.digits.specs.declared.digit.Hex.the-variants.{Value, Bad}
 use Rattle.difference.specs.Standardize.{standardizedOf}

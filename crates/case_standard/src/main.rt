@@ -10,7 +10,7 @@ use digits::byte_in;
 use digits::two;
 use libc::STDIN_FILENO;
 use libc::STDOUT_FILENO;
-use line::refusal::DIGIT;
+use rows::refusal::DIGIT;
 ghost use mathlib.Core.Path.{_≡_};
 ghost use Prim.Native.Nat.{_<_};
 ghost use lib.ListN.{length};

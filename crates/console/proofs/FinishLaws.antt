@@ -13,7 +13,7 @@ use Rattle.unit.specs.Reached.{after}
 use Rattle.unit.specs.Status.{statusOf}
 use Rattle.unit.specs.declared.Taken.{Taken}
 use Rattle.unit.specs.declared.Unit as U
-use Rattle.unit.specs.declared.report.Report.{Report}
+use Rattle.reply.specs.declared.report.Report.{Report}
 use Rattle.unit.proofs.Reach.{after-append}
 use Rattle.console.specs.declared.Console.{Console}
 use Rattle.text.specs.Text.{NEWLINE, answerText, statusText}

@@ -8,7 +8,7 @@ use lib.Dec.{eqb, ltb}
 use Rattle.laws.proofs.Bools.{or-neither, and-fails}
 use Rattle.laws.proofs.Cond.{cases}
 use Rattle.unit.specs.Claim.{isAccepted}
-use Rattle.unit.specs.Event.{eventByte}
+use Rattle.reply.specs.Event.{eventByte}
 use Rattle.unit.specs.Take.{takenOf}
 use Rattle.unit.proofs.Refusals.{refusal-keeps}
 use Rattle.text.specs.Text.{NEWLINE}

@@ -9,7 +9,7 @@ use Rattle.line.specs.Fields.{readingOf}
 use Rattle.line.specs.Amount.{amountOf}
 use Rattle.percent.specs.Percent.{accepted, hundredthsOf}
 use Rattle.line.specs.Read.{readBy, readOf}
-use Rattle.line.specs.Refused.{kindRow, dateRow, productRow, meanRow, readingRow}
+use Rattle.field.specs.Refused.{kindRow, dateRow, productRow, meanRow, readingRow}
 use Rattle.difference.specs.Contribution.{incrementOf, variableOf, measureOf}
 use Rattle.difference.specs.Difference.{fat, salt, coefficientFor}
 use Rattle.difference.specs.Largest.{rootFrom}

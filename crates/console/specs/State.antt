@@ -47,7 +47,7 @@ abbrev pub consoleAfter : Console → List ℕ → Console
 consoleAfter c [] = c
 consoleAfter c (x ∷ xs) = consoleAfter (steppedOf c x) xs
 
--- what is held after bytes that end no line, whatever the unit
+-- what is held after bytes that end no line, whatever the unit: what `hold` gives
 abbrev pub Holds : ℕ → List ℕ → List ℕ → ℕ → List ℕ → Type 0
 Holds held₀ bytes₀ xs held bytes =
     (u : U.Unit) → record { unit = u; held = held; bytes = bytes } ≡ consoleAfter (record { unit = u; held = held₀; bytes = bytes₀ }) xs

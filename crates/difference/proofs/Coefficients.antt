@@ -10,7 +10,7 @@ use lib.ListN.{getD}
 use Rattle.laws.proofs.Table.{at}
 use Rattle.difference.specs.declared.coefficient.Coefficient.{Coefficient}
 use Rattle.difference.specs.declared.coefficient.Coefficient.the-variants.{Constant, P, Q}
-use Rattle.line.specs.Refused.{MOST, classOf}
+use Rattle.field.specs.Refused.{MOST, classOf}
 use Rattle.difference.specs.Difference.{fat, salt, coefficientFor}
 
 unfoldable pub coefficients : List ℕ

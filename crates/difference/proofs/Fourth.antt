@@ -8,7 +8,7 @@ use lib.Pow.{pow-add}
 use mir.Syntax.{w64}
 use mir.Val.{Fits}
 use mir.Facts.{fits-le, fits-lit}
-use Rattle.line.specs.Refused.{MOST}
+use Rattle.field.specs.Refused.{MOST}
 use Rattle.difference.specs.Difference.{rooted, rootOf, RootIsLargest}
 use Rattle.difference.proofs.Largest.{IsRoot, largest, right, positive}
 

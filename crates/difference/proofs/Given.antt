@@ -3,7 +3,7 @@ use Prim.Native.Nat.{ℕ, _≤_, _<_}
 use mathlib.Core.Path.{_≡_}
 use mathlib.Core.Bool.{false}
 use borrow.Author.Tests.{le-ltb, lt-leb}
-use Rattle.line.specs.Refused.{MOST, classOf, productRow}
+use Rattle.field.specs.Refused.{MOST, classOf, productRow}
 use Rattle.difference.specs.Standardize.{leastMean, badMean, figuresOf, standardizedOf}
 use Rattle.difference.specs.bounds.Means.{GoodMean}
 use Rattle.difference.specs.declared.standardize.Standardized.the-variants.{Given}

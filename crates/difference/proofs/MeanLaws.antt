@@ -7,11 +7,10 @@ use native.Mathlib.Omega.{arith}
 use borrow.Author.Tests.{ltb-false, le-ltb, ne-eqb}
 use lib.Dec.{ltb, eqb}
 use Rattle.laws.proofs.Bools.{or-neither}
-use Rattle.line.specs.Refused.{meanRow, MOST, LEAST-PROTEIN, LEAST-BEEF-FAT, classOf}
-use Rattle.line.specs.declared.record.Means.{Means}
-use Rattle.difference.specs.Standardize.{leastMean}
+use Rattle.field.specs.Refused.{meanRow, MOST, LEAST-PROTEIN, LEAST-BEEF-FAT, classOf}
+use Rattle.field.specs.declared.Means.{Means}
+use Rattle.difference.specs.Standardize.{leastMean, badMean}
 use Rattle.difference.specs.bounds.Means.{GoodMean}
-use Rattle.difference.specs.Standardize.{badMean}
 
 -- fat: 0, or below its least in ground beef
 fat-row : (beef : Bool) (m : ℕ) → ltb m (cond beef LEAST-BEEF-FAT 1) ≡ (eqb m 0 || (beef && ltb m LEAST-BEEF-FAT))

@@ -12,7 +12,7 @@ use Rattle.difference.proofs.Fourth.{root-positive}
 use Rattle.difference.specs.declared.coefficient.Coefficient.{Coefficient}
 use Rattle.difference.specs.declared.coefficient.Coefficient.the-variants.{Constant, P, Q}
 use Rattle.difference.proofs.Coefficients.{thousandths}
-use Rattle.line.specs.Refused.{MOST, LEAST-PROTEIN, LEAST-BEEF-FAT, classOf, isDry}
+use Rattle.field.specs.Refused.{MOST, LEAST-PROTEIN, LEAST-BEEF-FAT, classOf, isDry}
 use Rattle.difference.specs.Difference.{moisture, protein, fat, salt, coefficientFor, coefficientOf, valueBy, valueOf, tenthsOf, powerOf}
 use Rattle.difference.specs.Standardize.{leastMean}
 use Rattle.difference.specs.bounds.Means.{GoodMean}

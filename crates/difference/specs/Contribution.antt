@@ -11,6 +11,17 @@ use Rattle.difference.specs.declared.constants.Constants.{Constants}
 use Rattle.difference.specs.declared.contribution.Contributions.{Contributions}
 use Rattle.difference.specs.Difference.{nearest}
 
+-- the most analytes that a category has, and the charts of an analyte: 0 P, 1 N, 2 V, 3 D
+abbrev pub ANALYTES : ℕ
+ANALYTES = 4
+
+abbrev pub EACH : ℕ
+EACH = 4
+
+-- the charts of as many analytes
+abbrev pub CHARTS : ℕ
+CHARTS = EACH * ANALYTES
+
 -- food chemistry
 abbrev pub food : Constants
 food = record { analytes = 4; high = 24; low = 16; shift = 4; limit = 52 }

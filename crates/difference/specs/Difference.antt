@@ -5,7 +5,7 @@ use mathlib.Core.List.{[], _∷_}
 use lib.IntN.{ℤ, pos, negsuc, negℤ, _-ℤ_}
 use lib.Dec.{eqb, leb, ltb}
 use lib.ListN.{getD}
-use Rattle.line.specs.Refused.{MOST, classOf, isDry}
+use Rattle.field.specs.Refused.{MOST, classOf, isDry}
 use Rattle.difference.specs.declared.coefficient.Coefficient.{Coefficient}
 use Rattle.difference.specs.declared.coefficient.Coefficient.the-variants.{Constant, P, Q}
 use Rattle.difference.specs.declared.difference.Difference.{Difference}

@@ -3,7 +3,8 @@ use Prim.Native.Nat.{ℕ}
 use mathlib.Core.Bool.{Bool, cond, _||_}
 use lib.IntN.{ℤ}
 use lib.Dec.{eqb, leb, ltb}
-use Rattle.line.specs.Refused.{PRODUCT, MEAN, READING, MOST, LEAST-PROTEIN, LEAST-BEEF-FAT, classOf, productRow}
+use Rattle.rows.specs.Refusal.{PRODUCT, MEAN, READING}
+use Rattle.field.specs.Refused.{MOST, LEAST-PROTEIN, LEAST-BEEF-FAT, classOf, productRow}
 use Rattle.difference.specs.declared.contribution.Contributions.{Contributions}
 use Rattle.difference.specs.declared.standardize.Figures.{Figures}
 use Rattle.difference.specs.declared.standardize.Standardized.{Standardized}

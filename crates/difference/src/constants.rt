@@ -1,3 +1,12 @@
+// The most analytes that a category has.
+pub const ANALYTES: usize = 4;
+
+// The charts of an analyte.
+pub const EACH: u8 = 4;
+
+// The charts of as many analytes.
+pub const CHARTS: usize = EACH as usize * ANALYTES;
+
 // What an analyte category goes by: how many analytes it has, and for the charts P and N of systematic
 // difference the turning points, the shift and the limit, in tenths.
 pub struct Constants {

@@ -1,7 +1,7 @@
 // The power of fat and salt. Document 01, "Standardizing value and difference".
 ghost use mathlib.Core.Path.{_≡_};
 ghost use Prim.Native.Nat.{_<_, _≤_, _^_};
-ghost use Rattle.line.specs.Refused.{MOST};
+ghost use Rattle.field.specs.Refused.{MOST};
 ghost use Rattle.difference.specs.Difference.{rootOf};
 
 // 1, in the fractions that t has.

@@ -5,7 +5,7 @@ use crate::powers::power;
 use crate::root::root;
 ghost use mathlib.Core.Path.{_≡_};
 ghost use Prim.Native.Nat.{_<_};
-ghost use Rattle.line.specs.Refused.{classOf};
+ghost use Rattle.field.specs.Refused.{classOf};
 ghost use Rattle.difference.specs.Difference.{valueOf};
 ghost use Rattle.difference.specs.bounds.Means.{GoodMean};
 

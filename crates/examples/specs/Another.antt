@@ -13,13 +13,13 @@ use Rattle.difference.specs.Contribution.{incrementOf, variableOf, measureOf}
 use Rattle.difference.specs.Difference.{CAP}
 use Rattle.difference.specs.declared.constants.Constants.{Constants}
 use Rattle.grounds.specs.Chart.{nextValue, nextFirst}
-use Rattle.line.specs.Refused.{FIRST-YEAR}
+use Rattle.field.specs.Refused.{FIRST-YEAR}
 use Rattle.rows.specs.Rows.{Row, firstRow, hasNumber, distinct}
 use Rattle.rows.proofs.RowsLaws.{passed}
 use Rattle.unit.specs.Category.{Category}
 use Rattle.unit.specs.Charts.{chartsIn}
 use Rattle.unit.specs.Claim.{Step, historyIn, since, shownAt, ClaimIn}
-use Rattle.unit.specs.Event.{eventByte}
+use Rattle.reply.specs.Event.{eventByte}
 use Rattle.unit.specs.Reached.{afterIn}
 use Rattle.unit.specs.Set.{emptySet}
 use Rattle.unit.specs.Status.{statusBy}
@@ -27,7 +27,7 @@ use Rattle.unit.specs.Stretch.{noSamples}
 use Rattle.unit.specs.Take.{ACCREDITED, noMisses, takenIn}
 use Rattle.unit.specs.bounds.Numbers.{Capped}
 use Rattle.unit.specs.declared.Unit as U
-use Rattle.unit.specs.declared.seen.Seen.{Seen}
+use Rattle.seen.specs.declared.Seen.{Seen}
 use Rattle.unit.proofs.Claimed.{claim-list}
 use Rattle.unit.proofs.Sound.{Sound}
 
@@ -75,7 +75,6 @@ sound = record {
   few = lit≤ tt;
   fits = record { high = lit≤ tt; low = lit≤ tt; shift = lit≤ tt };
   good = λ line e. record { year = lit≤ tt; late = lit≤ tt; month = lit< tt; december = lit≤ tt; capped = capped line e };
-  own = λ line. refl;
   all = λ u line. refl;
 }
 

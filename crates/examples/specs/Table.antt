@@ -8,7 +8,7 @@ use lib.IntN.{ℤ, pos, negℤ}
 use lib.ListN.{length, replicate}
 use Rattle.grounds.specs.Chart.{nextValue, nextFirst, over, valueAfter, firstAfter}
 use Rattle.percent.specs.Percent.{accepted, hundredthsOf}
-use Rattle.line.specs.Refused.{readingRow}
+use Rattle.field.specs.Refused.{readingRow}
 use Rattle.difference.specs.Contribution.{food, limitOf, incrementOf, variableOf, measureOf, contributionsOf}
 use Rattle.difference.specs.Difference.{powerOf, rootOf, salt, coefficientFor, valueOf, differenceOf}
 use Rattle.difference.specs.Largest.{rootFrom}

@@ -14,14 +14,14 @@ use Rattle.grounds.specs.Chart.{nextValue, nextFirst}
 use Rattle.grounds.specs.Claim.{TwoMisses, SomeRun, RightRun}
 use Rattle.grounds.specs.Entry.{Entry, misses, stretch, onChart, years}
 use Rattle.digits.specs.Digits.{isDigit, digitValue, digitOf, areDigits, bytesOf, digitsOf}
-use Rattle.line.specs.Fields.{PERCENT, LOST, bytesIn, readingOf, taggedOf, recordOf}
+use Rattle.field.specs.Refused.{PERCENT, LOST, kindRow, dateRow, productRow, meanRow, readingRow, MAINTENANCE, STUDY}
+use Rattle.line.specs.Fields.{bytesIn, readingOf, taggedOf, recordOf}
 use Rattle.line.specs.Amount.{amountOf}
 use Rattle.percent.specs.Percent.{accepted, hundredthsOf}
 use Rattle.line.specs.Read.{fieldsAt, readBy, readOf}
 use Rattle.rows.specs.Rows.{firstRow}
-use Rattle.line.specs.Refused.{kindRow, dateRow, productRow, meanRow, readingRow, MAINTENANCE, STUDY}
 use Rattle.line.specs.Write.{writtenBy, bufferBy, writtenOf, bufferAfter}
-use Rattle.line.specs.declared.fields.Tagged.{Tagged}
+use Rattle.field.specs.declared.Tagged.{Tagged}
 use Rattle.line.specs.declared.record.Record.{Record}
 use Rattle.line.specs.declared.record.Read.the-variants.{Whole}
 use Rattle.line.specs.declared.record.Written.the-variants.{Done, Refused as Unwritten}
@@ -35,7 +35,7 @@ use Rattle.unit.specs.Reached.{replay}
 use Rattle.unit.specs.Status.{statusBy, statusOf}
 use Rattle.study.specs.Study.{passesOf}
 use Rattle.unit.specs.Take.{newUnit, takenIn, takenOf}
-use Rattle.unit.specs.declared.event.Event.the-variants.{Refused, UnderWay}
+use Rattle.reply.specs.declared.event.Event.the-variants.{Refused, UnderWay}
 use Rattle.unit.proofs.Claimed.{claim-holds}
 
 -- ---- the lines

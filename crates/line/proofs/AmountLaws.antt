@@ -10,7 +10,7 @@ use Rattle.percent.specs.declared.rounding.Rounded.{Rounded}
 use Rattle.percent.specs.declared.rounding.Rounded.the-variants.{Accepted, NotAccepted}
 use Rattle.percent.proofs.HundredthLaws.{hundredths-small}
 use Rattle.line.specs.Amount.{amountOf}
-use Rattle.line.specs.Refused.{MOST}
+use Rattle.field.specs.Refused.{MOST}
 use Rattle.line.specs.declared.record.Reading.{Reading}
 use Rattle.line.specs.declared.record.Reading.the-variants.{Percent, NothingFound, Lost}
 use Rattle.line.specs.declared.record.Amount.{Amount}

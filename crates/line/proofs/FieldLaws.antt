@@ -10,7 +10,7 @@ use Rattle.digits.specs.Numbers.{AreBytes, oneAt, twoAt, fourAt, numberBytes}
 use Rattle.digits.proofs.NumberLaws.{byte-at, number-lt, bytes-back as number-bytes}
 use Rattle.line.specs.Fields.{lineBytes, tagged, bytes5, bytesIn, fieldsIn}
 use Rattle.line.specs.declared.fields.Fields.{Fields}
-use Rattle.line.specs.declared.fields.Tagged.{Tagged}
+use Rattle.field.specs.declared.Tagged.{Tagged}
 
 -- ---- the fields, from the numbers and the tagged readings among them
 

@@ -19,10 +19,11 @@ use Rattle.line.specs.Fields.{lineLength, lineBytes, bytes5, fieldsIn, b
 use Rattle.line.specs.bounds.Types.{Typed, TypedReading}
 use Rattle.line.specs.Inverse.{WritesBack}
 use Rattle.line.specs.Read.{fieldsAt, lineRows, readBy, readOf}
-use Rattle.line.specs.Refused.{fieldRows, readingRow}
+use Rattle.line.specs.FieldRows.{fieldRows}
+use Rattle.field.specs.Refused.{readingRow}
 use Rattle.line.specs.Write.{lineOf}
 use Rattle.line.specs.declared.fields.Fields.{Fields}
-use Rattle.line.specs.declared.fields.Tagged.{Tagged}
+use Rattle.field.specs.declared.Tagged.{Tagged}
 use Rattle.line.specs.declared.record.Record.{Record}
 use Rattle.line.specs.declared.record.Reading.{Reading}
 use Rattle.line.specs.declared.record.Reading.the-variants.{Percent, NothingFound, Lost}

@@ -10,7 +10,7 @@ use Rattle.rows.proofs.RowsLaws.{first-given}
 use Rattle.digits.specs.Digits.{areDigits}
 use Rattle.line.specs.Fields.{lineLength, recordOf}
 use Rattle.line.specs.Read.{fieldsAt, lineRows, readBy, readOf, readRow}
-use Rattle.line.specs.Refused.{fieldRows}
+use Rattle.line.specs.FieldRows.{fieldRows}
 use Rattle.line.specs.declared.record.Record.{Record}
 use Rattle.line.specs.declared.record.Read.the-variants.{Whole, Refused}
 

@@ -9,11 +9,11 @@ use lib.Ieee.{binary32, ofBits}
 use Rattle.laws.proofs.Bools.{or-neither}
 use Rattle.rows.specs.Rows.{firstRow}
 use Rattle.rows.proofs.RowsLaws.{passed}
-use Rattle.line.specs.Fields.{PERCENT, LOST}
+use Rattle.field.specs.Refused.{PERCENT, LOST, kindRow, dateRow, productRow, meanRow, readingRow}
 use Rattle.percent.specs.Percent.{accepted}
-use Rattle.line.specs.Refused.{fieldRows, kindRow, dateRow, productRow, meanRow, readingRow}
+use Rattle.line.specs.FieldRows.{fieldRows}
 use Rattle.line.specs.declared.fields.Fields.{Fields}
-use Rattle.line.specs.declared.fields.Tagged.{Tagged}
+use Rattle.field.specs.declared.Tagged.{Tagged}
 
 -- none of rows 3 to 7 fits
 pub record Clean (f : Fields) : Type 0 where

@@ -9,7 +9,8 @@ use lib.ListN.{length, drop}
 use Rattle.rows.specs.Rows.{firstRow, distinct, givenBy, Answers}
 use Rattle.rows.proofs.RowsLaws.{first-given}
 use Rattle.line.specs.Fields.{lineLength, fieldsOf}
-use Rattle.line.specs.Refused.{fieldRows, SHORT}
+use Rattle.line.specs.FieldRows.{fieldRows}
+use Rattle.rows.specs.Refusal.{SHORT}
 use Rattle.line.specs.Write.{lineOf, writeRows, writtenBy, bufferBy, writtenOf, bufferAfter, writtenRow, BufferKept}
 use Rattle.line.specs.declared.record.Record.{Record}
 use Rattle.line.specs.declared.record.Written.the-variants.{Done, Refused}

@@ -5,8 +5,9 @@ use mathlib.Core.List.{List, [], _∷_, _++_}
 use lib.Dec.{eqb}
 use lib.Ieee.{binary32, ofBits, toBits}
 use Rattle.digits.specs.Numbers.{oneAt, twoAt, fourAt, numberBytes}
+use Rattle.field.specs.Refused.{PERCENT, NOTHING-FOUND, LOST}
 use Rattle.line.specs.declared.fields.Fields.{Fields}
-use Rattle.line.specs.declared.fields.Tagged.{Tagged}
+use Rattle.field.specs.declared.Tagged.{Tagged}
 use Rattle.line.specs.declared.record.Record.{Record}
 use Rattle.line.specs.declared.record.Reading.{Reading}
 use Rattle.line.specs.declared.record.Reading.the-variants.{Percent, NothingFound, Lost}
@@ -50,16 +51,6 @@ bytesIn f =
     ++ (numberBytes 2 (f .means .protein)
     ++ (numberBytes 2 (f .means .fat)
     ++ (numberBytes 2 (f .means .salt) ++ (bytes5 (f .moisture) ++ (bytes5 (f .protein) ++ (bytes5 (f .fat) ++ bytes5 (f .salt)))))))))
-
--- the tags of a reading
-abbrev pub PERCENT : ℕ
-PERCENT = 0
-
-abbrev pub NOTHING-FOUND : ℕ
-NOTHING-FOUND = 1
-
-abbrev pub LOST : ℕ
-LOST = 2
 
 -- a reading by its tag: 00 a percent in binary32, 01 nothing found, 02 lost
 unfoldable pub readingOf : Tagged → Reading

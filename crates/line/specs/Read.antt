@@ -7,7 +7,8 @@ use lib.ListN.{length}
 use Rattle.rows.specs.Rows.{Row, firstRow, Given, no-row, a-row}
 use Rattle.digits.specs.Digits.{areDigits, bytesOf}
 use Rattle.line.specs.Fields.{lineLength, fieldsIn, recordOf}
-use Rattle.line.specs.Refused.{fieldRows, LENGTH, DIGIT}
+use Rattle.line.specs.FieldRows.{fieldRows}
+use Rattle.rows.specs.Refusal.{LENGTH, DIGIT}
 use Rattle.line.specs.declared.fields.Fields.{Fields}
 use Rattle.line.specs.declared.record.Record.{Record}
 use Rattle.line.specs.declared.record.Read.{Read}

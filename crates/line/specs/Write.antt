@@ -7,7 +7,8 @@ use lib.ListN.{length, drop}
 use Rattle.rows.specs.Rows.{Row, firstRow, Given, no-row, a-row}
 use Rattle.digits.specs.Digits.{digitsOf}
 use Rattle.line.specs.Fields.{lineLength, bytesIn, fieldsOf}
-use Rattle.line.specs.Refused.{fieldRows, SHORT}
+use Rattle.line.specs.FieldRows.{fieldRows}
+use Rattle.rows.specs.Refusal.{SHORT}
 use Rattle.line.specs.declared.record.Record.{Record}
 use Rattle.line.specs.declared.record.Written.{Written}
 use Rattle.line.specs.declared.record.Written.the-variants.{Done, Refused}

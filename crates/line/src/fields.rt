@@ -1,7 +1,6 @@
 // The fields of a line as numbers, in the order of document 01's table: from and to 34 bytes, and
 // from and to a record.
 
-use crate::record::Means;
 use crate::record::Reading;
 use crate::record::Readings;
 use crate::record::Record;
@@ -10,6 +9,11 @@ use digits::bytes2;
 use digits::bytes4;
 use digits::four_at;
 use digits::two_at;
+use field::LOST;
+use field::Means;
+use field::NOTHING_FOUND;
+use field::PERCENT;
+use field::Tagged;
 use percent::bits_of;
 ghost use mathlib.Core.Path.{_≡_};
 ghost use mathlib.Core.Bool.{false};
@@ -19,23 +23,11 @@ ghost use Rattle.digits.specs.Numbers.{numberBytes};
 ghost use Rattle.rows.specs.Rows.{firstRow};
 ghost use Rattle.line.specs.Fields.{lineBytes, bytes5, tagged, fieldsIn, bytesIn, readingOf, taggedOf, recordOf, fieldsOf};
 ghost use Rattle.line.specs.bounds.Types.{Typed, TypedReading};
-ghost use Rattle.line.specs.Refused.{readingRow, fieldRows};
+ghost use Rattle.field.specs.Refused.{readingRow};
+ghost use Rattle.line.specs.FieldRows.{fieldRows};
 
 // How many bytes a line's digits write.
 pub const BYTES: usize = 34;
-
-// The tags of a reading.
-pub const PERCENT: u8 = 0;
-
-pub const NOTHING_FOUND: u8 = 1;
-
-pub const LOST: u8 = 2;
-
-// A reading as a line has it: the tag, and the number that the four bytes after it make.
-pub struct Tagged {
-    pub tag: u8,
-    pub bits: u32,
-}
 
 pub struct Fields {
     pub kind: u8,

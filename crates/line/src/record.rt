@@ -1,23 +1,12 @@
 // What a line holds.
 
-// The kinds of a line.
-pub const MAINTENANCE: u8 = 1;
-
-pub const STUDY: u8 = 2;
+use field::Means;
 
 // A reading of the analyser: a percent, nothing found, or lost.
 pub enum Reading {
     Percent(f32),
     NothingFound,
     Lost,
-}
-
-// The comparison means of the four analytes, in hundredths of a percent.
-pub struct Means {
-    pub moisture: u16,
-    pub protein: u16,
-    pub fat: u16,
-    pub salt: u16,
 }
 
 // The readings of the four analytes, as received.

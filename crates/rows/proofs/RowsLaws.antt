@@ -79,12 +79,12 @@ passed n false rest e = (refl, e)
 -- ---- two tables, one after the other
 
 -- none of the first fits, and the second decides
-pub first-of-both : (a b : List Row) → distinct a ≡ true → firstRow a ≡ 0 → firstRow (a ++ b) ≡ firstRow b
+pub first-of-both : (a b : List Row) → distinct (a ++ b) ≡ true → firstRow a ≡ 0 → firstRow (a ++ b) ≡ firstRow b
 unfolding firstRow
 first-of-both [] b d e = refl
-first-of-both (r ∷ a) b d e = let t = table r a d in go t (first-of-both a b (t .rest)) (r .fits) e
+first-of-both (r ∷ a) b d e = let t = table r (a ++ b) d in go t (first-of-both a b (t .rest)) (r .fits) e
   where
-    go : Table r a → (firstRow a ≡ 0 → firstRow (a ++ b) ≡ firstRow b) → (f : Bool) → cond f (r .number) (firstRow a) ≡ 0
+    go : Table r (a ++ b) → (firstRow a ≡ 0 → firstRow (a ++ b) ≡ firstRow b) → (f : Bool) → cond f (r .number) (firstRow a) ≡ 0
         → cond f (r .number) (firstRow (a ++ b)) ≡ firstRow b
     go t rest true e = absurd (t .numbered e)
     go t rest false e = rest e

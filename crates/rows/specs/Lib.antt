@@ -1,2 +1,3 @@
--- Rows of a table of refusals, and which of them is given: document 01, "Refused".
+-- Rows of a table of refusals, which of them is given, and the numbers of rows 1 to 7 and 13: document 01, "Refused".
 pub mod Rows
+pub mod Refusal

@@ -1,5 +1,7 @@
 // The first row of a table that fits: document 01, "Refused".
 
+pub mod refusal;
+
 ghost use mathlib.Core.Path.{_≡_};
 ghost use mathlib.Core.Bool.{cond};
 ghost use Rattle.rows.specs.Rows.{firstRow, rowsOf};

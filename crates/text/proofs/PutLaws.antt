@@ -9,8 +9,8 @@ use borrow.Author.Tests.{le-leb, lt-leb, leb-true, leb-false}
 use lib.Dec.{leb}
 use lib.ListN.{length}
 use Rattle.laws.proofs.Bools.{either}
-use Rattle.unit.specs.Event.{eventByte, numberByte}
-use Rattle.unit.specs.declared.event.Event.{Event}
+use Rattle.reply.specs.Event.{eventByte, numberByte}
+use Rattle.reply.specs.declared.event.Event.{Event}
 use Rattle.text.specs.Buffer.{withText, roomFrom, putText, putPlace}
 use Rattle.text.specs.Text.{answerText}
 use Rattle.text.specs.bounds.Room.{ANSWER}

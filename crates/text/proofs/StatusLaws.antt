@@ -7,11 +7,10 @@ use native.Mathlib.Numerals.{add-one}
 use native.Mathlib.Omega.{arith}
 use borrow.Author.Tests.{eq-eqb, ne-eqb}
 use lib.ListN.{length, getD, length-append}
-use Rattle.unit.specs.Category.{CHARTS}
-use Rattle.unit.specs.Claim.{bitAt}
-use Rattle.unit.specs.Status.{noReport}
-use Rattle.unit.specs.declared.report.ChartReport.{ChartReport}
-use Rattle.unit.specs.declared.report.Report.{Report}
+use Rattle.difference.specs.Contribution.{CHARTS}
+use Rattle.reply.specs.Report.{bitAt, noReport}
+use Rattle.reply.specs.declared.report.ChartReport.{ChartReport}
+use Rattle.reply.specs.declared.report.Report.{Report}
 use Rattle.text.specs.bounds.Room.{STATUS, RUNS, RUN}
 use Rattle.text.specs.Buffer.{withText}
 use Rattle.text.specs.Text.{lineText, runBytes, chartText, runTexts, stageBytes, statusText}

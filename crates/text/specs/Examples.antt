@@ -5,10 +5,10 @@ use mathlib.Core.List.{[], _∷_, _++_}
 use lib.IntN.{pos, negsuc}
 use lib.ListN.{replicate}
 use Rattle.digits.specs.Digits.{digitOf, digitsOf}
-use Rattle.unit.specs.Status.{noReport}
-use Rattle.unit.specs.declared.event.Event.the-variants.{Refused, UnderWay, ByMisses}
-use Rattle.unit.specs.declared.report.Report.{Report}
-use Rattle.unit.specs.declared.report.ChartReport.{ChartReport}
+use Rattle.reply.specs.Report.{noReport}
+use Rattle.reply.specs.declared.event.Event.the-variants.{Refused, UnderWay, ByMisses}
+use Rattle.reply.specs.declared.report.Report.{Report}
+use Rattle.reply.specs.declared.report.ChartReport.{ChartReport}
 use Rattle.text.specs.Text.{answerText, chartText, runTexts, statusText}
 
 -- 0001, 030c, 0700

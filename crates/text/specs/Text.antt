@@ -6,13 +6,12 @@ use lib.ListN.{getD}
 use Rattle.digits.specs.Digits.{digitsOf}
 use Rattle.digits.specs.Numbers.{numberBytes}
 use Rattle.digits.specs.Signed.{signedBytes}
-use Rattle.unit.specs.Category.{CHARTS}
-use Rattle.unit.specs.Claim.{bitAt}
-use Rattle.unit.specs.Status.{noReport}
-use Rattle.unit.specs.Event.{eventByte, numberByte}
-use Rattle.unit.specs.declared.event.Event.{Event}
-use Rattle.unit.specs.declared.report.ChartReport.{ChartReport}
-use Rattle.unit.specs.declared.report.Report.{Report}
+use Rattle.difference.specs.Contribution.{CHARTS}
+use Rattle.reply.specs.Report.{bitAt, noReport}
+use Rattle.reply.specs.Event.{eventByte, numberByte}
+use Rattle.reply.specs.declared.event.Event.{Event}
+use Rattle.reply.specs.declared.report.ChartReport.{ChartReport}
+use Rattle.reply.specs.declared.report.Report.{Report}
 
 -- the number of the newline
 abbrev pub NEWLINE : ℕ

@@ -2,7 +2,7 @@
 
 use crate::hex::put_line;
 use crate::room::has_room;
-use unit::event::Event;
+use reply::event::Event;
 ghost use mathlib.Core.Path.{_≡_};
 ghost use Rattle.text.specs.Text.{eventBytes, answerText};
 ghost use Rattle.text.specs.bounds.Room.{ANSWER};

@@ -2,15 +2,15 @@
 
 use crate::hex::put_line;
 use crate::room::has_room;
+use difference::constants::CHARTS;
 use digits::bytes2;
 use digits::signed_bytes4;
-use unit::report::CHARTS;
-use unit::report::ChartReport;
-use unit::report::Report;
+use reply::report::ChartReport;
+use reply::report::Report;
 ghost use mathlib.Core.Path.{_≡_};
 ghost use Prim.Native.Nat.{_+_, _≤_};
 ghost use lib.ListN.{length};
-ghost use Rattle.unit.specs.Category.{CHARTS};
+ghost use Rattle.difference.specs.Contribution.{CHARTS};
 ghost use Rattle.text.specs.Text.{missesByte, stageBytes, runBytes, runTexts, statusText};
 ghost use Rattle.text.specs.bounds.Room.{RUNS, STATUS};
 ghost use Rattle.text.specs.Buffer.{withText, putText, putPlace};

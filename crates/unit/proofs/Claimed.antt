@@ -21,7 +21,7 @@ use Rattle.unit.specs.Status.{reportsOf, statusBy, statusOf}
 use Rattle.unit.specs.Stretch.{noSamples, anyOver, chartAt}
 use Rattle.unit.specs.Take.{noMisses, newUnit, takenIn}
 use Rattle.unit.specs.declared.Unit as U
-use Rattle.unit.specs.declared.report.ChartReport.{ChartReport}
+use Rattle.reply.specs.declared.report.ChartReport.{ChartReport}
 use Rattle.unit.proofs.GoodLaws.{food-sound}
 use Rattle.unit.proofs.Kept.{Kept, fresh, step-kept, next}
 use Rattle.unit.proofs.Sound.{Sound}

@@ -24,7 +24,8 @@ use Rattle.laws.proofs.EachLaws.{each-length, any-none, none-any}
 use Rattle.laws.proofs.Gathered.{with-one-more}
 use Rattle.laws.proofs.Order.{zarith}
 use Rattle.rows.specs.Rows.{firstRow}
-use Rattle.unit.specs.Category.{Category, CHARTS}
+use Rattle.unit.specs.Category.{Category}
+use Rattle.difference.specs.Contribution.{CHARTS}
 use Rattle.unit.specs.Charts.{chartsIn, contributionTo, isOver, limit}
 use Rattle.unit.specs.Claim.{Step, isAdmission, isAccepted, opens, openedIn, entryBy, entryOf, entryIn, entriesOf}
 use Rattle.unit.specs.Set.{enteredOf, passesSet}
@@ -34,9 +35,9 @@ use Rattle.unit.specs.Take.{SECOND, ACCREDITED, PROBATION, CLOSED, noMis
 use Rattle.unit.specs.bounds.Numbers.{GoodSeen}
 use Rattle.unit.specs.declared.Unit as U
 use Rattle.unit.specs.declared.chart.Chart.{Chart}
-use Rattle.unit.specs.declared.event.Event.{Event}
-use Rattle.unit.specs.declared.event.Event.the-variants.{Refused, Sample, Missed as MissedLine, UnderWay, Failed, ByCharts, ByMisses}
-use Rattle.unit.specs.declared.seen.Seen.{Seen}
+use Rattle.reply.specs.declared.event.Event.{Event}
+use Rattle.reply.specs.declared.event.Event.the-variants.{Refused, Sample, Missed as MissedLine, UnderWay, Failed, ByCharts, ByMisses}
+use Rattle.seen.specs.declared.Seen.{Seen}
 use Rattle.unit.specs.declared.set.Set.{Set}
 use Rattle.unit.specs.declared.stretch.Stretch.{Stretch}
 use Rattle.unit.proofs.Sound.{Sound, clear}

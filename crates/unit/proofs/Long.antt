@@ -6,7 +6,7 @@ use native.Mathlib.Omega.{arith}
 use borrow.Author.Tests.{ne-eqb}
 use lib.ListN.{length}
 use Rattle.line.specs.Fields.{lineLength}
-use Rattle.line.specs.Refused.{LENGTH}
+use Rattle.rows.specs.Refusal.{LENGTH}
 use Rattle.rows.specs.Rows.{firstRow}
 use Rattle.unit.specs.Take.{refusedOf, takenIn, takenOf}
 use Rattle.unit.specs.declared.Unit as U

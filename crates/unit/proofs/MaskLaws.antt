@@ -7,10 +7,10 @@ use native.Mathlib.Nat.{div-div-eq-div-mul, pow-succ'}
 use native.Mathlib.Omega.{arith}
 use lib.Dec.{eqb, lit<}
 use lib.ListN.{length, getD, drop, length-drop, drop-of-length-le}
-use Rattle.unit.specs.Category.{CHARTS}
-use Rattle.unit.specs.Claim.{bitAt}
-use Rattle.unit.specs.Status.{noReport, bitOf, maskOf}
-use Rattle.unit.specs.declared.report.ChartReport.{ChartReport}
+use Rattle.difference.specs.Contribution.{CHARTS}
+use Rattle.reply.specs.Report.{bitAt, noReport}
+use Rattle.unit.specs.Status.{bitOf, maskOf}
+use Rattle.reply.specs.declared.report.ChartReport.{ChartReport}
 
 bit-step : (b m c : ℕ) → b < 2 → (b + 2 * m) / 2 ^ suc c ≡ m / 2 ^ c
 bit-step b m c h =

@@ -12,7 +12,7 @@ use Rattle.unit.specs.Months.{lastMonth, MonthIs}
 use Rattle.unit.specs.Take.{newUnit, takenByRow, rowsIn, takenIn}
 use Rattle.unit.specs.declared.Unit as U
 use Rattle.difference.specs.declared.constants.Constants.{Constants}
-use Rattle.unit.specs.declared.seen.Seen.{Seen}
+use Rattle.seen.specs.declared.Seen.{Seen}
 use Rattle.unit.proofs.Refusals.{leaves}
 
 -- an accepted line's month is kept, a refused line's is not

@@ -19,7 +19,7 @@ use Rattle.unit.specs.Stretch.{anyOver, sampledOf}
 use Rattle.unit.specs.Take.{newUnit, missedBy, sampleBy, judgedBy, studyBy, acceptedBy, takenByRow, rowsIn, takenIn, takenOf}
 use Rattle.unit.specs.bounds.Numbers.{Bounded, GoodSeen, LAST-MONTH, SetBounded, StretchBounded}
 use Rattle.unit.specs.declared.Unit as U
-use Rattle.unit.specs.declared.seen.Seen.{Seen}
+use Rattle.seen.specs.declared.Seen.{Seen}
 use Rattle.unit.specs.declared.set.Set.{Set}
 use Rattle.unit.specs.declared.stretch.Stretch.{Stretch}
 use Rattle.unit.proofs.GoodLaws.{food-sound}

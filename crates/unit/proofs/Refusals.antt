@@ -10,7 +10,7 @@ use Rattle.rows.specs.Rows.{firstRow, distinct, no-row, a-row, givenBy, Answers
 use Rattle.rows.proofs.RowsLaws.{first-given}
 use Rattle.unit.specs.Category.{Category}
 use Rattle.unit.specs.Food.{foodChemistry}
-use Rattle.unit.specs.Event.{eventByte, numberByte, eventRow}
+use Rattle.reply.specs.Event.{eventByte, numberByte, eventRow}
 use Rattle.unit.specs.Set.{enteredOf, passesSet}
 use Rattle.unit.specs.Stretch.{sampledOf, anyOver}
 use Rattle.study.specs.Study.{SET}
@@ -18,7 +18,7 @@ use Rattle.unit.specs.Take.{missedBy, sampleBy, judgedBy, studyBy, accep
 use Rattle.unit.specs.declared.Unit as U
 use Rattle.unit.specs.declared.Taken.{Taken}
 use Rattle.difference.specs.declared.constants.Constants.{Constants}
-use Rattle.unit.specs.declared.seen.Seen.{Seen}
+use Rattle.seen.specs.declared.Seen.{Seen}
 use Rattle.unit.specs.declared.set.Set.{Set}
 use Rattle.unit.specs.declared.stretch.Stretch.{Stretch}
 

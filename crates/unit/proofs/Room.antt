@@ -6,7 +6,7 @@ use native.Mathlib.Omega.{arith}
 use lib.Dec.{eqb, lit≤}
 use lib.IntN.{ℤ, natAbs}
 use lib.ListN.{length-replicate}
-use Rattle.difference.specs.Contribution.{contributionsOf}
+use Rattle.difference.specs.Contribution.{contributionsOf, ANALYTES, EACH, CHARTS}
 use Rattle.difference.specs.bounds.Numbers.{LARGEST, Moderate, AllModerate}
 use Rattle.difference.specs.declared.constants.Constants.{Constants}
 use Rattle.difference.specs.declared.contribution.Contributions.{Contributions}
@@ -16,7 +16,6 @@ use Rattle.grounds.specs.Chart.{nextValue}
 use Rattle.laws.proofs.Below.{below}
 use Rattle.laws.proofs.Cond.{cases}
 use Rattle.laws.proofs.EachLaws.{each-length, each-at}
-use Rattle.unit.specs.Category.{ANALYTES, EACH, CHARTS}
 use Rattle.unit.specs.Charts.{chartsIn, noChart, contributionAt, contributionTo, differenceAt, movedBy}
 use Rattle.unit.specs.Stretch.{FULL, noSamples, earlier, sampledOf, chartAt}
 use Rattle.unit.specs.bounds.Numbers.{ChartsRoomy, StretchBounded}

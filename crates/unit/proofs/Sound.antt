@@ -7,7 +7,8 @@ use native.Mathlib.Omega.{arith}
 use Rattle.difference.proofs.Bounds.{Fits}
 use Rattle.rows.specs.Rows.{firstRow, distinct}
 use Rattle.rows.proofs.RowsLaws.{first-of-both, first-of-one}
-use Rattle.unit.specs.Category.{Category, ANALYTES}
+use Rattle.unit.specs.Category.{Category}
+use Rattle.difference.specs.Contribution.{ANALYTES}
 use Rattle.unit.specs.Take.{unitRows, rowsIn}
 use Rattle.unit.specs.bounds.Numbers.{GoodSeen}
 use Rattle.unit.specs.declared.Unit as U
@@ -18,8 +19,7 @@ pub record Sound (g : Category) : Type 0 where
   pub fits : Fits (g .constants)
   -- a line that reads has a date of a line, and capped differences
   pub good : (line : List ℕ) → firstRow (g .rows line) ≡ 0 → GoodSeen (g .seen line)
-  -- its rows are a table, by themselves and with rows 8 to 12
-  pub own : (line : List ℕ) → distinct (g .rows line) ≡ true
+  -- its rows and rows 8 to 12 are a table
   pub all : (u : U.Unit) (line : List ℕ) → distinct (rowsIn g u line) ≡ true
 
 -- where no row fits, the line reads and none of rows 8 to 12 fits
@@ -35,4 +35,4 @@ module _ (g : Category) (sound : Sound g) (u : U.Unit) (line : List ℕ) where
   pub clear : firstRow (rowsIn g u line) ≡ 0 → Clear g u line
   clear z =
       let r = reading (firstRow (g .rows line)) refl z in
-      record { reads = r; unit = sym (first-of-both (g .rows line) (unitRows u (g .seen line)) (sound .own line) r) ∙ z }
+      record { reads = r; unit = sym (first-of-both (g .rows line) (unitRows u (g .seen line)) (sound .all u line) r) ∙ z }

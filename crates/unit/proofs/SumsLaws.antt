@@ -16,7 +16,7 @@ use Rattle.difference.proofs.Bounds.{measure-small}
 use Rattle.laws.proofs.EachLaws.{each-length, each-at, each-past}
 use Rattle.laws.proofs.Lists.{same-at}
 use Rattle.laws.proofs.Word.{abs-plus}
-use Rattle.unit.specs.Category.{ANALYTES}
+use Rattle.difference.specs.Contribution.{ANALYTES}
 use Rattle.unit.specs.Charts.{differenceAt}
 use Rattle.unit.specs.Set.{emptySet, enteredBy, enteredOf, sumsAt}
 use Rattle.study.specs.Study.{noSums, addedOf, sumsOf}

@@ -13,7 +13,7 @@ use Rattle.unit.specs.Stretch.{FULL, earlier}
 use Rattle.unit.specs.Take.{closedRow, stageRow, backdatedRow, gapRow, fullRow, unitRows, refusedOf, missedOf, sampleOf, studyOf, acceptedBy, takenByRow, takenSeen}
 use Rattle.unit.specs.declared.Unit as U
 use Rattle.difference.specs.declared.constants.Constants.{Constants}
-use Rattle.unit.specs.declared.seen.Seen.{Seen}
+use Rattle.seen.specs.declared.Seen.{Seen}
 
 module _ (c : Constants) (u : U.Unit) (x : Seen) where
   -- ---- each case

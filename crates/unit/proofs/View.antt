@@ -9,10 +9,11 @@ use lib.Signed.{_≤ℤ_}
 use Rattle.grounds.proofs.Charted as G
 use Rattle.laws.proofs.EachLaws.{each-length, each-at}
 use Rattle.laws.proofs.Lists.{same-at}
-use Rattle.unit.specs.Category.{ANALYTES, EACH, CHARTS}
+use Rattle.difference.specs.Contribution.{ANALYTES, EACH, CHARTS}
 use Rattle.unit.specs.Charts.{chartsIn, noChart, contributionTo, movedBy, limit}
 use Rattle.difference.proofs.Bounds.{limit-not-negative}
-use Rattle.unit.specs.Status.{noReport, reportAt, reportsOf}
+use Rattle.reply.specs.Report.{noReport}
+use Rattle.unit.specs.Status.{reportAt, reportsOf}
 use Rattle.unit.specs.Stretch.{noSamples, earlier, sampledOf, chartAt}
 use Rattle.unit.specs.declared.chart.Chart.{Chart}
 use Rattle.difference.specs.declared.constants.Constants.{Constants}

@@ -6,8 +6,7 @@ use mathlib.Core.List.{List, [], _∷_}
 use lib.IntN.{ℤ, pos}
 use lib.ListN.{getD}
 use Rattle.grounds.specs.Chart.{nextValue, nextFirst, over}
-use Rattle.unit.specs.Category.{EACH}
-use Rattle.difference.specs.Contribution.{contributionsOf, limitOf}
+use Rattle.difference.specs.Contribution.{EACH, contributionsOf, limitOf}
 use Rattle.unit.specs.declared.chart.Chart.{Chart}
 use Rattle.difference.specs.declared.constants.Constants.{Constants}
 use Rattle.difference.specs.declared.contribution.Contributions.{Contributions}

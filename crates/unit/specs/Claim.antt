@@ -1,6 +1,6 @@
 -- Demand 3 of document 01, as one claim about the whole list of lines given to a new unit: the lines given, the events returned and the status after
 -- them, and nothing of the unit's fields.
-use Prim.Native.Nat.{ℕ, _/_, _%_, _^_}
+use Prim.Native.Nat.{ℕ}
 use mathlib.Core.Bool.{Bool, true, false, cond, not, _||_}
 use mathlib.Core.List.{List, [], _∷_, _++_}
 use lib.Dec.{eqb}
@@ -9,16 +9,16 @@ use Rattle.grounds.specs.Claim.{Grounds, Claim}
 use Rattle.grounds.specs.Entry.{Entry, missed as aMiss, sample}
 use Rattle.unit.specs.Category.{Category}
 use Rattle.unit.specs.Charts.{chartsIn, contributionTo, limit}
-use Rattle.unit.specs.Event.{eventByte}
+use Rattle.reply.specs.Event.{eventByte}
 use Rattle.unit.specs.Food.{foodChemistry}
-use Rattle.unit.specs.Status.{noReport}
+use Rattle.reply.specs.Report.{bitAt, noReport}
 use Rattle.unit.specs.Take.{newUnit, takenIn}
 use Rattle.unit.specs.declared.Unit as U
 use Rattle.difference.specs.declared.constants.Constants.{Constants}
-use Rattle.unit.specs.declared.event.Event.{Event}
-use Rattle.unit.specs.declared.report.Report.{Report}
-use Rattle.unit.specs.declared.report.ChartReport.{ChartReport}
-use Rattle.unit.specs.declared.seen.Seen.{Seen}
+use Rattle.reply.specs.declared.event.Event.{Event}
+use Rattle.reply.specs.declared.report.Report.{Report}
+use Rattle.reply.specs.declared.report.ChartReport.{ChartReport}
+use Rattle.seen.specs.declared.Seen.{Seen}
 
 -- a line given, with the event that was returned
 pub record Step : Type 0 where
@@ -74,10 +74,6 @@ entryIn g x = cond (isAccepted (x .event)) (entryOf (g .constants) (g .seen (x .
 abbrev pub entriesOf : Category → List Step → List Entry
 entriesOf g [] = []
 entriesOf g (x ∷ h) = entryIn g x ++ entriesOf g h
-
--- a chart is named by its bit
-abbrev pub bitAt : ℕ → ℕ → Bool
-bitAt c mask = eqb (mask / 2 ^ c % 2) 1
 
 abbrev pub shownAt : Report → ℕ → ChartReport
 shownAt report c = getD (report .charts) c noReport

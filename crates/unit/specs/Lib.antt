@@ -4,7 +4,6 @@ pub mod Food
 pub mod Charts
 pub mod Stretch
 pub mod Set
-pub mod Event
 pub mod Take
 pub mod Status
 pub mod Reached

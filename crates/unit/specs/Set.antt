@@ -4,7 +4,7 @@ use mathlib.Core.Bool.{Bool}
 use mathlib.Core.List.{List}
 use lib.ListN.{getD, replicate}
 use Rattle.laws.specs.Each.{eachBelow, allBelow}
-use Rattle.unit.specs.Category.{ANALYTES}
+use Rattle.difference.specs.Contribution.{ANALYTES}
 use Rattle.unit.specs.Charts.{differenceAt}
 use Rattle.study.specs.Study.{noSums, addedOf, passesOf}
 use Rattle.difference.specs.declared.constants.Constants.{Constants}

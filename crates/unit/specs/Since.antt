@@ -6,11 +6,12 @@ use mathlib.Core.Logic.{_⊎_, _↔_}
 use mathlib.Core.List.{List, [], _∷_, _++_}
 use Rattle.grounds.specs.Entry.{years, NeverFall}
 use Rattle.line.specs.Read.{readOf}
-use Rattle.line.specs.Refused.{MAINTENANCE}
+use Rattle.field.specs.Refused.{MAINTENANCE}
 use Rattle.line.specs.declared.record.Record.{Record}
 use Rattle.line.specs.declared.record.Read.the-variants.{Whole}
 use Rattle.unit.specs.Claim.{Step, history, isAdmission, isAccepted, since, entriesOf}
-use Rattle.unit.specs.Food.{seenOf, foodChemistry}
+use Rattle.seen.specs.Food.{seenOf}
+use Rattle.unit.specs.Food.{foodChemistry}
 use Rattle.unit.specs.Take.{takenOf}
 use Rattle.unit.specs.declared.Unit as U
 

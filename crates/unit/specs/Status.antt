@@ -3,27 +3,23 @@
 use Prim.Native.Nat.{ℕ, _+_, _*_}
 use mathlib.Core.Bool.{Bool, true, false}
 use mathlib.Core.List.{List, [], _∷_}
-use lib.IntN.{pos}
 use lib.ListN.{replicate}
 use Rattle.laws.specs.Each.{eachBelow}
-use Rattle.unit.specs.Category.{CHARTS}
+use Rattle.difference.specs.Contribution.{CHARTS}
 use Rattle.unit.specs.Charts.{chartsIn, isOver}
 use Rattle.unit.specs.Food.{foodChemistry}
 use Rattle.unit.specs.Stretch.{chartAt}
 use Rattle.unit.specs.declared.Unit as U
 use Rattle.unit.specs.declared.chart.Chart.{Chart}
 use Rattle.difference.specs.declared.constants.Constants.{Constants}
-use Rattle.unit.specs.declared.report.ChartReport.{ChartReport}
-use Rattle.unit.specs.declared.report.Report.{Report}
+use Rattle.reply.specs.Report.{noReport}
+use Rattle.reply.specs.declared.report.ChartReport.{ChartReport}
+use Rattle.reply.specs.declared.report.Report.{Report}
 use Rattle.unit.specs.declared.stretch.Stretch.{Stretch}
 
 -- a chart, by whether it is over and the stretch's last sample, at which the run shown ends
 abbrev pub reportFor : Bool → ℕ → Chart → ChartReport
 reportFor over last chart = record { over = over; first = chart .first; last = last; value = chart .value }
-
--- of a chart that the category does not have nothing is shown
-abbrev pub noReport : ChartReport
-noReport = record { over = false; first = 0; last = 0; value = pos 0 }
 
 -- chart n
 abbrev pub reportAt : Constants → Stretch → ℕ → ChartReport

@@ -5,7 +5,7 @@ use mathlib.Core.List.{List}
 use lib.ListN.{getD, replicate}
 use Rattle.grounds.specs.Earlier.{before}
 use Rattle.laws.specs.Each.{eachBelow, anyBelow}
-use Rattle.unit.specs.Category.{CHARTS}
+use Rattle.difference.specs.Contribution.{CHARTS}
 use Rattle.unit.specs.Charts.{chartsIn, noChart, movedBy, isOver}
 use Rattle.unit.specs.declared.chart.Chart.{Chart}
 use Rattle.difference.specs.declared.constants.Constants.{Constants}

@@ -14,9 +14,9 @@ use Rattle.unit.specs.declared.Unit as U
 use Rattle.unit.specs.declared.Taken.{Taken}
 use Rattle.unit.specs.declared.Misses.{Misses}
 use Rattle.difference.specs.declared.constants.Constants.{Constants}
-use Rattle.unit.specs.declared.event.Event.{Event}
-use Rattle.unit.specs.declared.event.Event.the-variants.{Refused, Sample, Missed, UnderWay, Passed, Failed, ByCharts, ByMisses}
-use Rattle.unit.specs.declared.seen.Seen.{Seen}
+use Rattle.reply.specs.declared.event.Event.{Event}
+use Rattle.reply.specs.declared.event.Event.the-variants.{Refused, Sample, Missed, UnderWay, Passed, Failed, ByCharts, ByMisses}
+use Rattle.seen.specs.declared.Seen.{Seen}
 use Rattle.unit.specs.declared.set.Set.{Set}
 use Rattle.unit.specs.declared.stretch.Stretch.{Stretch}
 
@@ -142,7 +142,7 @@ abbrev pub takenByRow : ℕ → Constants → U.Unit → Seen → Taken
 takenByRow zero c u x = acceptedBy (x .study) (x .missed) c u x
 takenByRow (suc row) c u x = refusedOf u (suc row)
 
--- a line that reads, by rows 8 to 12
+-- a line that reads, by rows 8 to 12: what `take_seen` gives
 unfoldable pub takenSeen : Constants → U.Unit → Seen → Taken
 unfolding firstRow
 takenSeen c u x = takenByRow (firstRow (unitRows u x)) c u x

@@ -1,19 +1,15 @@
 // The check-sample unit: a new one, a line taken, and the status.
 mod chart;
-pub mod event;
-mod food;
-pub mod report;
-mod seen;
 mod set;
 mod shown;
 mod stage;
 mod stretch;
 
 use difference::constants::FOOD;
-use event::Event;
-use food::see;
 use line::record::Read;
-use report::Report;
+use reply::event::Event;
+use reply::report::Report;
+use seen::food::see;
 use set::Set;
 use set::empty_set;
 use shown::mask_of;
@@ -30,7 +26,7 @@ ghost use mathlib.Core.Path.{_≡_};
 ghost use Rattle.line.specs.Read.{numberOf};
 ghost use Rattle.rows.specs.Rows.{Answers};
 ghost use Rattle.unit.specs.Claim.{ClaimOf};
-ghost use Rattle.unit.specs.Event.{eventByte, eventRow};
+ghost use Rattle.reply.specs.Event.{eventByte, eventRow};
 ghost use Rattle.unit.specs.Reached.{Reached, replay};
 ghost use Rattle.unit.specs.Status.{statusOf};
 ghost use Rattle.unit.specs.Take.{newUnit, takenOf, takeRows};
@@ -38,7 +34,7 @@ ghost use Rattle.unit.specs.Take.{newUnit, takenOf, takeRows};
 // The misses since admission: the last one's month, 0 where there is none, and whether misses opened
 // probation.
 pub struct Misses {
-    last: u16,
+    last: u32,
     opened: bool,
 }
 
@@ -46,7 +42,7 @@ pub struct Misses {
 // the stretch and the misses. Only `new_unit` and `take` make one.
 pub struct Unit {
     stage: u8,
-    month: u16,
+    month: u32,
     set: Set,
     stretch: Stretch,
     misses: Misses,

@@ -1,5 +1,5 @@
 // A study set under way.
-use crate::seen::ANALYTES;
+use difference::constants::ANALYTES;
 use difference::constants::Constants;
 use difference::contribution::measure;
 use difference::contribution::size;
@@ -12,7 +12,7 @@ ghost use lib.IntN.{natAbs};
 ghost use Rattle.difference.specs.Difference.{CAP};
 ghost use Prim.Native.Nat.{_-_, _<_, _≤_};
 ghost use Rattle.laws.specs.Each.{eachBelow};
-ghost use Rattle.unit.specs.Category.{ANALYTES};
+ghost use Rattle.difference.specs.Contribution.{ANALYTES};
 ghost use Rattle.unit.specs.Set.{emptySet, enteredBy, enteredOf, passesSet};
 ghost use Rattle.unit.specs.bounds.Numbers.{SumsBounded, SetBounded, AllBounded, Capped};
 ghost use Rattle.study.specs.Study.{SET, addedOf};

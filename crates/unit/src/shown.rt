@@ -1,15 +1,16 @@
 // What the status shows of the charts.
 use crate::chart::Chart;
-use crate::report::CHARTS;
-use crate::report::ChartReport;
-use crate::seen::EACH;
 use crate::stretch::Stretch;
 use crate::stretch::is_over;
+use difference::constants::CHARTS;
 use difference::constants::Constants;
+use difference::constants::EACH;
+use reply::report::ChartReport;
 ghost use mathlib.Core.Path.{_≡_};
 ghost use Prim.Native.Nat.{_≤_};
-ghost use Rattle.unit.specs.Category.{ANALYTES};
-ghost use Rattle.unit.specs.Status.{noReport, reportFor, reportsOf, bitOf, maskOf};
+ghost use Rattle.difference.specs.Contribution.{ANALYTES};
+ghost use Rattle.reply.specs.Report.{noReport};
+ghost use Rattle.unit.specs.Status.{reportFor, reportsOf, bitOf, maskOf};
 
 fn report_for(over: bool, last: u16, chart: Chart) -> ChartReport
     ensures { λ r. ⌜ r ≡ reportFor over last chart ⌝ }

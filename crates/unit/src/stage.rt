@@ -2,8 +2,6 @@
 use crate::Misses;
 use crate::Taken;
 use crate::Unit;
-use crate::event::Event;
-use crate::seen::Seen;
 use crate::set::Set;
 use crate::set::empty_set;
 use crate::set::entered;
@@ -13,7 +11,9 @@ use crate::stretch::any_over;
 use crate::stretch::no_samples;
 use crate::stretch::sampled;
 use difference::constants::Constants;
+use reply::event::Event;
 use rows::first_of;
+use seen::Seen;
 use study::LINES;
 ghost use mathlib.Core.Path.{_≡_};
 ghost use mathlib.Core.Bool.{true};
@@ -21,7 +21,7 @@ ghost use Prim.Native.Nat.{_≤_};
 ghost use lib.Dec.{eqb};
 ghost use Rattle.grounds.specs.Earlier.{again};
 ghost use Rattle.rows.specs.Rows.{firstRow};
-ghost use Rattle.unit.specs.Category.{ANALYTES};
+ghost use Rattle.difference.specs.Contribution.{ANALYTES};
 ghost use Rattle.study.specs.Study.{SET};
 ghost use Rattle.unit.specs.Stretch.{anyOver};
 ghost use Rattle.unit.specs.Take.{unitRows, refusedOf, noMisses, takenAs, missedBy, sampleBy, failedStage, judgedBy, studyBy, takenSeen};
@@ -41,9 +41,9 @@ pub const CLOSED: u8 = 4;
 // How many samples a stretch holds.
 const FULL: u16 = 999;
 // Two misses at most so many months apart open probation.
-const WINDOW: u16 = 11;
+const WINDOW: u32 = 11;
 
-// The numbers of the refusals, document 01, "Refused".
+// The numbers of rows 8 to 12, document 01, "Refused".
 const ROW_CLOSED: u8 = 8;
 
 const ROW_STAGE: u8 = 9;
@@ -92,7 +92,7 @@ pub fn no_misses() -> Misses
 }
 
 // What an accepted line leaves.
-fn taken(event: Event, stage: u8, month: u16, set: Set, stretch: Stretch, misses: Misses) -> Taken
+fn taken(event: Event, stage: u8, month: u32, set: Set, stretch: Stretch, misses: Misses) -> Taken
     ensures { λ t. ⌜ t ≡ takenAs event stage month set stretch misses ⌝ }
 {
     Taken {
@@ -107,7 +107,7 @@ fn taken(event: Event, stage: u8, month: u16, set: Set, stretch: Stretch, misses
     }
 }
 
-fn missed_line(u: Unit, month: u16) -> Taken
+fn missed_line(u: Unit, month: u32) -> Taken
     requires { ⌜ u .misses .last ≤ LAST-MONTH ⌝ }
     ensures { λ t. ⌜ t ≡ missedBy (again (u .misses .last) month) u month ⌝ }
 {
@@ -126,7 +126,7 @@ fn missed_line(u: Unit, month: u16) -> Taken
     taken(Event::Missed, u.stage, month, u.set, u.stretch, misses)
 }
 
-fn sample_line(c: Constants, u: Unit, month: u16, stretch: Stretch) -> Taken
+fn sample_line(c: Constants, u: Unit, month: u32, stretch: Stretch) -> Taken
     requires { ⌜ c .analytes ≤ ANALYTES ⌝ }
     ensures { λ t. ⌜ t ≡ sampleBy (anyOver c (stretch .charts)) u month stretch ⌝ }
 {
@@ -145,7 +145,7 @@ fn after_failure(stage: u8) -> u8
 }
 
 // A set that was judged. Passed is admission, which clears charts, grounds and misses.
-fn judged(u: Unit, month: u16, passed: bool) -> Taken
+fn judged(u: Unit, month: u32, passed: bool) -> Taken
     ensures { λ t. ⌜ t ≡ judgedBy passed u month ⌝ }
 {
     if passed {
@@ -169,7 +169,7 @@ fn judged(u: Unit, month: u16, passed: bool) -> Taken
     )
 }
 
-fn study_line(c: Constants, u: Unit, month: u16, set: Set) -> Taken
+fn study_line(c: Constants, u: Unit, month: u32, set: Set) -> Taken
     requires { ⌜ c .analytes ≤ ANALYTES ⌝ }
     ensures { λ t. ⌜ t ≡ studyBy (eqb (set .lines) SET) c u month set ⌝ }
 {

@@ -1,17 +1,17 @@
 // The stretch under way: its year, its samples and the charts.
 use crate::chart::Chart;
 use crate::chart::step;
-use crate::report::CHARTS;
-use crate::seen::ANALYTES;
-use crate::seen::EACH;
+use difference::constants::ANALYTES;
+use difference::constants::CHARTS;
 use difference::constants::Constants;
+use difference::constants::EACH;
 use difference::contribution::contribute;
 use difference::contribution::limit;
 use difference::difference::Difference;
 ghost use mathlib.Core.Path.{_≡_};
 ghost use Prim.Native.Nat.{_<_, _≤_};
 ghost use Rattle.laws.specs.Each.{eachBelow};
-ghost use Rattle.unit.specs.Category.{ANALYTES};
+ghost use Rattle.difference.specs.Contribution.{ANALYTES};
 ghost use Rattle.unit.specs.Charts.{isOver, movedBy, chartsIn};
 ghost use Rattle.unit.specs.Stretch.{noSamples, earlier, sampledOf, anyOver, FULL};
 ghost use Rattle.unit.specs.bounds.Numbers.{StretchBounded, ChartsRoomy};

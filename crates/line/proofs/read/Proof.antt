@@ -13,7 +13,7 @@ use Rattle.digits.specs.Digits.{areDigits}
 use Rattle.line.specs.Fields.{lineLength, lineBytes, fieldsIn, recordOf}
 use Rattle.line.specs.Inverse.{WritesBack}
 use Rattle.line.specs.Read.{fieldsAt, lineRows, readOf, readRow}
-use Rattle.line.specs.Refused.{fieldRows}
+use Rattle.line.specs.FieldRows.{fieldRows}
 use Rattle.line.specs.declared.record.Read.{Read}
 use Rattle.line.specs.declared.record.Read.the-variants.{Whole}
 use Rattle.line.specs.declared.fields.Fields.{Fields}

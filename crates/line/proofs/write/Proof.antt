@@ -10,7 +10,7 @@ use Rattle.line.specs.Fields.{lineLength, fieldsOf, bytesIn}
 use Rattle.line.specs.Inverse.{ReadsBack}
 use Rattle.line.specs.Read.{readOf}
 use Rattle.line.specs.Write.{lineOf, writeRows, writtenOf, bufferAfter, writtenRow, BufferKept}
-use Rattle.line.specs.Refused.{fieldRows}
+use Rattle.line.specs.FieldRows.{fieldRows}
 use Rattle.line.specs.declared.fields.Fields.{Fields}
 use Rattle.line.specs.declared.record.Record.{Record}
 use Rattle.line.specs.declared.record.Written.{Written}

@@ -8,8 +8,8 @@ use Rattle.unit.specs.Claim.{ClaimOf}
 use Rattle.unit.specs.Reached.{replay}
 use Rattle.unit.specs.Status.{reportsOf, maskOf, statusBy, statusOf}
 use Rattle.unit.specs.declared.Unit as U
-use Rattle.unit.specs.declared.report.ChartReport.{ChartReport}
-use Rattle.unit.specs.declared.report.Report.{Report}
+use Rattle.reply.specs.declared.report.ChartReport.{ChartReport}
+use Rattle.reply.specs.declared.report.Report.{Report}
 use Rattle.unit.proofs.Claimed.{claim-holds}
 use borrow.Author.Needs.{needs}
 use Rattle.unit.proofs.status.Statement.{statement}

@@ -13,15 +13,15 @@ use Rattle.line.specs.declared.record.Read.the-variants.{Whole, Refused as Unre
 use Rattle.line.proofs.Inverse.{read-is}
 use Rattle.rows.specs.Rows.{firstRow, Answers}
 use Rattle.rows.proofs.RowsLaws.{first-of-both, first-of-one}
-use Rattle.unit.specs.Event.{eventByte, eventRow}
-use Rattle.unit.specs.Food.{seenOf, foodChemistry}
+use Rattle.reply.specs.Event.{eventByte, eventRow}
+use Rattle.seen.specs.Food.{seenOf}
+use Rattle.unit.specs.Food.{foodChemistry}
 use Rattle.unit.specs.Reached.{Reached}
 use Rattle.unit.specs.Take.{refusedOf, unitRows, takenByRow, takenSeen, takenIn, takenOf, takeRows}
 use Rattle.unit.specs.bounds.Numbers.{GoodSeen}
-use Rattle.unit.specs.bounds.Records.{GoodRecord}
 use Rattle.unit.specs.declared.Unit as U
 use Rattle.unit.specs.declared.Taken.{Taken}
-use Rattle.unit.proofs.GoodLaws.{good-record, good-seen, food-sound}
+use Rattle.unit.proofs.GoodLaws.{good-seen, food-sound}
 use Rattle.unit.proofs.Reach.{reached-bounded, reached-more}
 use Rattle.unit.proofs.Refusals.{refusal-keeps, first-row-given}
 use borrow.Author.Needs.{needs}
@@ -41,15 +41,12 @@ unread u line n e = go (firstRow (lineRows line)) refl e
         ∙ ap (λ (m : ℕ). takenByRow m food u (seenOf (recordOf (fieldsAt line)))) (sym (first-of-one (lineRows line) (unitRows u (seenOf (recordOf (fieldsAt line)))) k q))
 
 -- one that does
-good : (line : List ℕ) (r : Record) → readOf line ≡ Whole r → GoodRecord r
-good line r e = let p = read-is line r e in subst GoodRecord (sym (p .1)) (good-record line (p .0))
-
 whole : (u : U.Unit) (line : List ℕ) (r : Record) → readOf line ≡ Whole r → takenSeen food u (seenOf r) ≡ takenOf u line
 unfolding takenSeen takenIn
 whole u line r e =
     let p = read-is line r e in
     ap (λ (q : Record). takenSeen food u (seenOf q)) (p .1)
-    ∙ ap (λ (n : ℕ). takenByRow n food u (seenOf (recordOf (fieldsAt line)))) (sym (first-of-both (lineRows line) (unitRows u (seenOf (recordOf (fieldsAt line)))) (food-sound .own line) (p .0)))
+    ∙ ap (λ (n : ℕ). takenByRow n food u (seenOf (recordOf (fieldsAt line)))) (sym (first-of-both (lineRows line) (unitRows u (seenOf (recordOf (fieldsAt line)))) (food-sound .all u line) (p .0)))
 
 -- all promises from the first
 all : (u : U.Unit) (line : List ℕ) (t : Taken) → Reached u → t ≡ takenOf u line
@@ -87,15 +84,15 @@ returns c =
     ∙ unread u line _ (sym (c .before .before .before .before .read .ensures .0) ∙ told))
 
 see-requires : tie.Need-see-requires
-see-requires c κs =
-    let a = c .before in
-    good (now (a .before .before .before .before .args .line)) _ (sym (a .before .before .read .ensures .0) ∙ a .answer .given .1)
+see-requires c κs = search needs
 
 take-seen-requires : tie.Need-take-seen-requires
 take-seen-requires c κs =
     let a = c .before .before in
     let start = a .before .before .before .before in
-    (lit≤ tt, reached-bounded (start .args .unit) (start .pre), subst GoodSeen (sym (c .see .ensures)) (good-seen _ (good (now (start .args .line)) _ (sym (a .before .before .read .ensures .0) ∙ a .answer .given .1))))
+    let line = now (start .args .line) in
+    let e = sym (a .before .before .read .ensures .0) ∙ a .answer .given .1 in
+    (lit≤ tt, reached-bounded (start .args .unit) (start .pre), subst GoodSeen (sym (c .see .ensures .1 line e)) (good-seen line _ e))
 
 returns-2 : tie.Need-returns-2
 returns-2 c =
@@ -103,8 +100,8 @@ returns-2 c =
     let start = a .before .before .before .before in
     let u = start .args .unit in
     let line = now (start .args .line) in
-    all u line _ (start .pre)
-    (c .take-seen .ensures ∙ ap (takenSeen food u) (c .before .see .ensures) ∙ whole u line _ (sym (a .before .before .read .ensures .0) ∙ a .answer .given .1))
+    let e = sym (a .before .before .read .ensures .0) ∙ a .answer .given .1 in
+    all u line _ (start .pre) (c .take-seen .ensures ∙ ap (takenSeen food u) (c .before .see .ensures .1 line e) ∙ whole u line _ e)
 
 pub take-spec : {M : Type 1} → statement M
 take-spec =

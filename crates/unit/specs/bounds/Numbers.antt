@@ -4,8 +4,8 @@ use mathlib.Core.Path.{_≡_}
 use mathlib.Core.List.{List}
 use lib.IntN.{ℤ, natAbs}
 use lib.ListN.{length}
-use Rattle.line.specs.Refused.{FIRST-YEAR, LAST-YEAR}
-use Rattle.unit.specs.Category.{ANALYTES, CHARTS}
+use Rattle.field.specs.Refused.{FIRST-YEAR, LAST-YEAR}
+use Rattle.difference.specs.Contribution.{ANALYTES, CHARTS}
 use Rattle.unit.specs.Charts.{chartsIn, differenceAt}
 use Rattle.difference.specs.Difference.{CAP}
 use Rattle.difference.specs.bounds.Numbers.{LARGEST}
@@ -16,7 +16,7 @@ use Rattle.unit.specs.declared.Unit as U
 use Rattle.unit.specs.declared.chart.Chart.{Chart}
 use Rattle.difference.specs.declared.constants.Constants.{Constants}
 use Rattle.difference.specs.declared.difference.Difference.{Difference}
-use Rattle.unit.specs.declared.seen.Seen.{Seen}
+use Rattle.seen.specs.declared.Seen.{Seen}
 use Rattle.unit.specs.declared.set.Set.{Set}
 use Rattle.unit.specs.declared.stretch.Stretch.{Stretch}
 use Rattle.study.specs.declared.Sums.{Sums}

@@ -8,7 +8,7 @@ use lib.Dec.{eqb}
 use lib.ListN.{getD}
 use mathlib.Core.Bool.{false}
 use lib.Bits.{bitAnd, and-mask}
-use Rattle.line.specs.Refused.{classOf}
+use Rattle.field.specs.Refused.{classOf}
 use Rattle.difference.specs.Difference.{fat, salt, coefficientFor}
 use Rattle.difference.proofs.Coefficients.{coefficients, highest, class-below, entry, other-fat}
 use Rattle.difference.proofs.coefficient.choose.Statement.{statement}

@@ -7,7 +7,7 @@ use lib.Dec.{leb}
 use borrow.Author.Tests.{leb-false, lt-ltb, le-ltb}
 use borrow.Author.Needs.{needs}
 use Rattle.laws.proofs.Bools.{or-neither}
-use Rattle.line.specs.Refused.{MOST, classOf, productRow}
+use Rattle.field.specs.Refused.{MOST, classOf, productRow}
 use Rattle.difference.specs.declared.standardize.Standardized.the-variants.{Given}
 use Rattle.difference.specs.Standardize.{badMean, standardizedOf}
 use Rattle.difference.proofs.MeanLaws.{good-mean}

@@ -7,9 +7,9 @@ use mathlib.Core.Logic.{⊎-elim}
 use mathlib.Core.List.{List}
 use denote.Ref.{now}
 use lib.ListN.{length, getD}
-use Rattle.unit.specs.Category.{CHARTS}
-use Rattle.unit.specs.Status.{noReport}
-use Rattle.unit.specs.declared.report.ChartReport.{ChartReport}
+use Rattle.difference.specs.Contribution.{CHARTS}
+use Rattle.reply.specs.Report.{noReport}
+use Rattle.reply.specs.declared.report.ChartReport.{ChartReport}
 use Rattle.text.specs.Buffer.{withText}
 use Rattle.text.specs.Text.{lineText, chartText}
 use Rattle.text.specs.bounds.Room.{RUNS}

@@ -6,7 +6,7 @@ use Prim.Native.Nat.{ℕ, _-_, _≤_}
 use lib.ListN.{length}
 use Rattle.laws.specs.Each.{eachBelow}
 use Rattle.laws.proofs.EachLaws.{each-next, each-past}
-use Rattle.unit.specs.Category.{ANALYTES}
+use Rattle.difference.specs.Contribution.{ANALYTES}
 use Rattle.unit.specs.Set.{enteredBy, sumsAt}
 use Rattle.study.specs.Study.{SET, noSums}
 use Rattle.unit.specs.bounds.Numbers.{SumsBounded}

@@ -3,8 +3,9 @@ use mathlib.Core.Path.{_≡_, sym, ap, _∙_, subst}
 use native.Mathlib.Omega.{arith}
 use Prim.Native.Nat.{ℕ, _-_, _^_, _≤_, _<_}
 use lib.ListN.{length, getD, drop}
-use Rattle.unit.specs.Category.{CHARTS}
-use Rattle.unit.specs.Status.{noReport, maskOf}
+use Rattle.difference.specs.Contribution.{CHARTS}
+use Rattle.reply.specs.Report.{noReport}
+use Rattle.unit.specs.Status.{maskOf}
 use Rattle.unit.proofs.MaskLaws.{mask-none, mask-next, mask-room, bit-lt}
 use borrow.Author.Needs.{needs}
 use Rattle.unit.proofs.shown.mask_of.Statement.{statement}

@@ -6,9 +6,10 @@ use Prim.Native.Nat.{ℕ, _-_, _≤_}
 use lib.ListN.{replicate, length-replicate}
 use Rattle.laws.specs.Each.{eachBelow}
 use Rattle.laws.proofs.EachLaws.{each-next}
-use Rattle.unit.specs.Category.{CHARTS}
+use Rattle.difference.specs.Contribution.{CHARTS}
 use Rattle.unit.specs.Charts.{chartsIn, isOver}
-use Rattle.unit.specs.Status.{reportFor, noReport, reportAt}
+use Rattle.unit.specs.Status.{reportFor, reportAt}
+use Rattle.reply.specs.Report.{noReport}
 use Rattle.unit.specs.Stretch.{chartAt}
 use borrow.Author.Needs.{needs}
 use Rattle.unit.proofs.shown.reports.Statement.{statement}

@@ -4,7 +4,7 @@ use mathlib.Core.Bool.{Bool}
 use Prim.Native.Nat.{ℕ}
 use Rattle.unit.specs.Take.{takenAs, judgedBy}
 use Rattle.unit.specs.declared.Misses.{Misses}
-use Rattle.unit.specs.declared.event.Event.{Event}
+use Rattle.reply.specs.declared.event.Event.{Event}
 use Rattle.unit.specs.declared.set.Set.{Set}
 use Rattle.unit.specs.declared.stretch.Stretch.{Stretch}
 use borrow.Author.Needs.{needs}

@@ -1,0 +1,2 @@
+-- Laws that the proofs of `see` and of the unit cite.
+pub mod FoodLaws

@@ -1,0 +1,2 @@
+-- What a line is to the unit, by analyte category.
+pub mod Food

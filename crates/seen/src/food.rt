@@ -1,0 +1,107 @@
+// A record of food chemistry as the unit sees it.
+use crate::Seen;
+use difference::constants::ANALYTES;
+use difference::difference::Difference;
+use difference::standardize::Standardized;
+use difference::standardize::standardize;
+use field::STUDY;
+use line::record::Amount;
+use line::record::Reading;
+use line::record::Record;
+ghost use Prim.Native.Nat.{ℕ};
+ghost use mathlib.Core.List.{List};
+ghost use mathlib.Core.Path.{_≡_};
+ghost use Rattle.line.specs.Amount.{amountOf};
+ghost use Rattle.line.specs.Read.{readOf};
+ghost use Rattle.line.specs.declared.record.Read.the-variants.{Whole};
+ghost use Rattle.seen.specs.Food.{monthOf, isLost, missed, countOf, answerFor, byAnalyte, seenOf, seenOfAny};
+
+// Days from receipt to result after which a line is missed.
+const LATE: u8 = 21;
+
+// The month number: 12 × year + month.
+fn month_of(r: Record) -> u32
+    ensures { λ m. ⌜ m ≡ monthOf r ⌝ }
+{
+    12 * r.year as u32 + r.month as u32
+}
+
+// Whether a reading is lost.
+fn is_lost(reading: Reading) -> bool
+    ensures { λ r. ⌜ r ≡ isLost reading ⌝ }
+{
+    match reading {
+        Reading::Percent(_) => false,
+        Reading::NothingFound => false,
+        Reading::Lost => true,
+    }
+}
+
+// Whether a line of the record is missed: a reading is lost, or the result came late.
+fn is_missed(r: Record) -> bool
+    ensures { λ b. ⌜ b ≡ missed r ⌝ }
+{
+    let readings = r.readings;
+    let moisture = readings.moisture;
+    let protein = readings.protein;
+    let fat = readings.fat;
+    let salt = readings.salt;
+    (is_lost(moisture) | is_lost(protein) | is_lost(fat) | is_lost(salt)) | (LATE < r.days)
+}
+
+// A reading in hundredths, 0 where it has none.
+fn count(reading: Reading) -> u16
+    ensures { λ n. ⌜ n ≡ countOf (amountOf reading) ⌝ }
+{
+    let Amount::Hundredths(n) = line::hundredths(reading) else {
+        return 0;
+    };
+    n
+}
+
+// The difference of a reading, 0 where `standardize` refuses.
+fn difference(product: u8, analyte: u8, mean: u16, reading: Reading) -> Difference
+    ensures { λ d. ⌜ d ≡ answerFor product analyte mean reading ⌝ }
+{
+    let Standardized::Given(figures) = standardize(product, analyte, mean, count(reading)) else {
+        return Difference { tenths: 0 };
+    };
+    Difference {
+        tenths: figures.difference,
+    }
+}
+
+// The differences of the four analytes.
+fn find_differences(r: Record) -> [Difference; ANALYTES]
+    ensures { λ d. ⌜ d ≡ byAnalyte answerFor r ⌝ }
+{
+    let means = r.means;
+    let readings = r.readings;
+    let moisture = readings.moisture;
+    let protein = readings.protein;
+    let fat = readings.fat;
+    let salt = readings.salt;
+    [
+        difference(r.product, 0, means.moisture, moisture),
+        difference(r.product, 1, means.protein, protein),
+        difference(r.product, 2, means.fat, fat),
+        difference(r.product, 3, means.salt, salt),
+    ]
+}
+
+// What a record is to the unit.
+// `whole`: for every record. `read`: for a record that was read, no difference is refused, and each is
+// document 01's.
+pub fn see(r: Record) -> Seen
+    ensures whole { λ x. ⌜ x ≡ seenOfAny r ⌝ }
+    ensures read { λ x. ⌜ ((line : List ℕ) → readOf line ≡ Whole r → x ≡ seenOf r) ⌝ }
+{
+    let differences = find_differences(r);
+    Seen {
+        study: r.kind == STUDY,
+        year: r.year,
+        month: month_of(r),
+        missed: is_missed(r),
+        differences,
+    }
+}
