@@ -7,7 +7,7 @@ use native.Mathlib.Omega.{arith}
 use borrow.Author.Tests.{eq-eqb, ne-eqb, lt-ltb, le-ltb}
 use lib.ListN.{length, take, length-append}
 use lib.Seq.{length-take-le}
-use Rattle.line.specs.Fields.{lineLength}
+use Rattle.food_line.specs.Fields.{lineLength}
 use Rattle.unit.specs.Take.{takenOf}
 use Rattle.unit.specs.Reached.{after}
 use Rattle.unit.specs.Status.{statusOf}

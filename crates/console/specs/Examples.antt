@@ -5,10 +5,10 @@ use mathlib.Core.List.{[], _∷_, _++_}
 use lib.Ieee.{ofBits}
 use Rattle.rows.specs.Rows.{firstRow}
 use Rattle.digits.specs.Digits.{isDigit, digitValue, digitOf, areDigits, bytesOf, digitsOf}
-use Rattle.line.specs.Fields.{readingOf}
-use Rattle.line.specs.Amount.{amountOf}
+use Rattle.food_line.specs.Fields.{readingOf}
+use Rattle.food_line.specs.Amount.{amountOf}
 use Rattle.percent.specs.Percent.{accepted, hundredthsOf}
-use Rattle.line.specs.Read.{readBy, readOf}
+use Rattle.food_line.specs.Read.{readBy, readOf}
 use Rattle.field.specs.Refused.{kindRow, dateRow, productRow, meanRow, readingRow}
 use Rattle.difference.specs.Contribution.{incrementOf, variableOf, measureOf}
 use Rattle.difference.specs.Difference.{fat, salt, coefficientFor}

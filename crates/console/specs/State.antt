@@ -5,7 +5,7 @@ use mathlib.Core.Bool.{Bool, false, cond, _&&_, _||_}
 use mathlib.Core.List.{List, [], _∷_, _++_}
 use lib.Dec.{ltb, eqb}
 use lib.ListN.{take, set, replicate}
-use Rattle.line.specs.Fields.{lineLength}
+use Rattle.food_line.specs.Fields.{lineLength}
 use Rattle.unit.specs.Claim.{isAccepted}
 use Rattle.unit.specs.Take.{takenOf}
 use Rattle.unit.specs.declared.Unit as U

@@ -2,7 +2,7 @@
 
 mod newline;
 
-use line::DIGITS;
+use food_line::DIGITS;
 use newline::line_end;
 use text::NEWLINE;
 use text::answer::ANSWER;

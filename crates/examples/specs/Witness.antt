@@ -15,16 +15,16 @@ use Rattle.grounds.specs.Claim.{TwoMisses, SomeRun, RightRun}
 use Rattle.grounds.specs.Entry.{Entry, misses, stretch, onChart, years}
 use Rattle.digits.specs.Digits.{isDigit, digitValue, digitOf, areDigits, bytesOf, digitsOf}
 use Rattle.field.specs.Refused.{PERCENT, LOST, kindRow, dateRow, productRow, meanRow, readingRow, MAINTENANCE, STUDY}
-use Rattle.line.specs.Fields.{bytesIn, readingOf, taggedOf, recordOf}
-use Rattle.line.specs.Amount.{amountOf}
+use Rattle.food_line.specs.Fields.{bytesIn, readingOf, taggedOf, recordOf}
+use Rattle.food_line.specs.Amount.{amountOf}
 use Rattle.percent.specs.Percent.{accepted, hundredthsOf}
-use Rattle.line.specs.Read.{fieldsAt, readBy, readOf}
+use Rattle.food_line.specs.Read.{fieldsAt, readBy, readOf}
 use Rattle.rows.specs.Rows.{firstRow}
-use Rattle.line.specs.Write.{writtenBy, bufferBy, writtenOf, bufferAfter}
+use Rattle.food_line.specs.Write.{writtenBy, bufferBy, writtenOf, bufferAfter}
 use Rattle.field.specs.declared.Tagged.{Tagged}
-use Rattle.line.specs.declared.record.Record.{Record}
-use Rattle.line.specs.declared.record.Read.the-variants.{Whole}
-use Rattle.line.specs.declared.record.Written.the-variants.{Done, Refused as Unwritten}
+use Rattle.food_line.specs.declared.record.Record.{Record}
+use Rattle.food_line.specs.declared.record.Read.the-variants.{Whole}
+use Rattle.food_line.specs.declared.record.Written.the-variants.{Done, Refused as Unwritten}
 use Rattle.unit.specs.Charts.{chartsIn, limit}
 use Rattle.unit.specs.Claim.{history, since, openedIn, entriesOf, shownAt, ClaimOf}
 use Rattle.unit.specs.Food.{foodChemistry}

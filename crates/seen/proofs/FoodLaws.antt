@@ -11,20 +11,20 @@ use Rattle.difference.specs.declared.difference.Difference.{Difference}
 use Rattle.difference.proofs.Given.{given}
 use Rattle.difference.proofs.MeanLaws.{mean-rows, good-mean}
 use Rattle.laws.proofs.Bools.{or-neither}
-use Rattle.line.specs.Fields.{recordOf}
-use Rattle.line.specs.Amount.{amountOf}
-use Rattle.line.specs.Read.{fieldsAt, readOf}
+use Rattle.food_line.specs.Fields.{recordOf}
+use Rattle.food_line.specs.Amount.{amountOf}
+use Rattle.food_line.specs.Read.{fieldsAt, readOf}
 use Rattle.field.specs.Refused.{MOST, MAINTENANCE, STUDY, kindRow, meanRow, productRow, classOf}
-use Rattle.line.specs.declared.fields.Fields.{Fields}
-use Rattle.line.specs.declared.record.Record.{Record}
+use Rattle.food_line.specs.declared.fields.Fields.{Fields}
+use Rattle.food_line.specs.declared.record.Record.{Record}
 use Rattle.field.specs.declared.Means.{Means}
-use Rattle.line.specs.declared.record.Amount.{Amount}
-use Rattle.line.specs.declared.record.Amount.the-variants.{Hundredths, Unknown}
-use Rattle.line.specs.declared.record.Read.the-variants.{Whole}
-use Rattle.line.specs.declared.record.Reading.{Reading}
-use Rattle.line.proofs.AmountLaws.{amount-small}
-use Rattle.line.proofs.Inverse.{good, read-is}
-use Rattle.line.proofs.RowLaws.{Clean, clean}
+use Rattle.food_line.specs.declared.record.Amount.{Amount}
+use Rattle.food_line.specs.declared.record.Amount.the-variants.{Hundredths, Unknown}
+use Rattle.food_line.specs.declared.record.Read.the-variants.{Whole}
+use Rattle.food_line.specs.declared.record.Reading.{Reading}
+use Rattle.food_line.proofs.AmountLaws.{amount-small}
+use Rattle.food_line.proofs.Inverse.{good, read-is}
+use Rattle.food_line.proofs.RowLaws.{Clean, clean}
 use Rattle.seen.specs.Food.{countOf, differenceFor, differenceIn, answerFor, byAnalyte, seenWith, seenOf, seenOfAny, KindIs}
 
 -- no row fits the fields of a record that was read

@@ -6,15 +6,15 @@ use mathlib.Core.List.{List, [], _∷_}
 use mathlib.Core.Logic.{_↔_}
 use lib.Dec.{eqb, ltb}
 use lib.IntN.{pos}
-use Rattle.line.specs.Amount.{amountOf}
-use Rattle.line.specs.Read.{readOf}
+use Rattle.food_line.specs.Amount.{amountOf}
+use Rattle.food_line.specs.Read.{readOf}
 use Rattle.field.specs.Refused.{MAINTENANCE, STUDY}
-use Rattle.line.specs.declared.record.Record.{Record}
-use Rattle.line.specs.declared.record.Read.the-variants.{Whole}
-use Rattle.line.specs.declared.record.Reading.{Reading}
-use Rattle.line.specs.declared.record.Reading.the-variants.{Percent, NothingFound, Lost}
-use Rattle.line.specs.declared.record.Amount.{Amount}
-use Rattle.line.specs.declared.record.Amount.the-variants.{Hundredths, Unknown}
+use Rattle.food_line.specs.declared.record.Record.{Record}
+use Rattle.food_line.specs.declared.record.Read.the-variants.{Whole}
+use Rattle.food_line.specs.declared.record.Reading.{Reading}
+use Rattle.food_line.specs.declared.record.Reading.the-variants.{Percent, NothingFound, Lost}
+use Rattle.food_line.specs.declared.record.Amount.{Amount}
+use Rattle.food_line.specs.declared.record.Amount.the-variants.{Hundredths, Unknown}
 use Rattle.difference.specs.Difference.{distance, differenceOf, valueOf}
 use Rattle.difference.specs.Standardize.{standardizedOf}
 use Rattle.difference.specs.declared.difference.Difference.{Difference}

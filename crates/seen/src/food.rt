@@ -5,15 +5,15 @@ use difference::difference::Difference;
 use difference::standardize::Standardized;
 use difference::standardize::standardize;
 use field::STUDY;
-use line::record::Amount;
-use line::record::Reading;
-use line::record::Record;
+use food_line::record::Amount;
+use food_line::record::Reading;
+use food_line::record::Record;
 ghost use Prim.Native.Nat.{ℕ};
 ghost use mathlib.Core.List.{List};
 ghost use mathlib.Core.Path.{_≡_};
-ghost use Rattle.line.specs.Amount.{amountOf};
-ghost use Rattle.line.specs.Read.{readOf};
-ghost use Rattle.line.specs.declared.record.Read.the-variants.{Whole};
+ghost use Rattle.food_line.specs.Amount.{amountOf};
+ghost use Rattle.food_line.specs.Read.{readOf};
+ghost use Rattle.food_line.specs.declared.record.Read.the-variants.{Whole};
 ghost use Rattle.seen.specs.Food.{monthOf, isLost, missed, countOf, answerFor, byAnalyte, seenOf, seenOfAny};
 
 // Days from receipt to result after which a line is missed.
@@ -53,7 +53,7 @@ fn is_missed(r: Record) -> bool
 fn count(reading: Reading) -> u16
     ensures { λ n. ⌜ n ≡ countOf (amountOf reading) ⌝ }
 {
-    let Amount::Hundredths(n) = line::hundredths(reading) else {
+    let Amount::Hundredths(n) = food_line::hundredths(reading) else {
         return 0;
     };
     n

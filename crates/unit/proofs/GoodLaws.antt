@@ -11,16 +11,16 @@ use Rattle.difference.specs.Contribution.{food}
 use Rattle.difference.specs.Difference.{CAP, distance, valueOf}
 use Rattle.difference.proofs.Bounds.{difference-small, food-fits}
 use Rattle.laws.proofs.Bools.{or-neither}
-use Rattle.line.specs.Fields.{recordOf}
-use Rattle.line.specs.Read.{fieldsAt, lineRows, readBy, readOf}
+use Rattle.food_line.specs.Fields.{recordOf}
+use Rattle.food_line.specs.Read.{fieldsAt, lineRows, readBy, readOf}
 use Rattle.field.specs.Refused.{FIRST-YEAR, LAST-YEAR, dateRow}
-use Rattle.line.specs.declared.fields.Fields.{Fields}
-use Rattle.line.specs.Amount.{amountOf}
-use Rattle.line.specs.declared.record.Record.{Record}
-use Rattle.line.specs.declared.record.Reading.{Reading}
-use Rattle.line.specs.declared.record.Read.the-variants.{Whole}
-use Rattle.line.proofs.Inverse.{good, read-is}
-use Rattle.line.proofs.RowLaws.{Clean, clean}
+use Rattle.food_line.specs.declared.fields.Fields.{Fields}
+use Rattle.food_line.specs.Amount.{amountOf}
+use Rattle.food_line.specs.declared.record.Record.{Record}
+use Rattle.food_line.specs.declared.record.Reading.{Reading}
+use Rattle.food_line.specs.declared.record.Read.the-variants.{Whole}
+use Rattle.food_line.proofs.Inverse.{good, read-is}
+use Rattle.food_line.proofs.RowLaws.{Clean, clean}
 use Rattle.rows.specs.Rows.{firstRow, hasNumber, distinct}
 use Rattle.seen.specs.Food.{countOf, differenceFor, byAnalyte, seenOf}
 use Rattle.seen.proofs.FoodLaws.{kind-is}

@@ -5,7 +5,7 @@ use mathlib.Core.List.{List}
 use native.Mathlib.Omega.{arith}
 use borrow.Author.Tests.{ne-eqb}
 use lib.ListN.{length}
-use Rattle.line.specs.Fields.{lineLength}
+use Rattle.food_line.specs.Fields.{lineLength}
 use Rattle.rows.specs.Refusal.{LENGTH}
 use Rattle.rows.specs.Rows.{firstRow}
 use Rattle.unit.specs.Take.{refusedOf, takenIn, takenOf}

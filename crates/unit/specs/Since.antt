@@ -5,10 +5,10 @@ use mathlib.Core.Bool.{Bool, true, false, _||_}
 use mathlib.Core.Logic.{_⊎_, _↔_}
 use mathlib.Core.List.{List, [], _∷_, _++_}
 use Rattle.grounds.specs.Entry.{years, NeverFall}
-use Rattle.line.specs.Read.{readOf}
+use Rattle.food_line.specs.Read.{readOf}
 use Rattle.field.specs.Refused.{MAINTENANCE}
-use Rattle.line.specs.declared.record.Record.{Record}
-use Rattle.line.specs.declared.record.Read.the-variants.{Whole}
+use Rattle.food_line.specs.declared.record.Record.{Record}
+use Rattle.food_line.specs.declared.record.Read.the-variants.{Whole}
 use Rattle.unit.specs.Claim.{Step, history, isAdmission, isAccepted, since, entriesOf}
 use Rattle.seen.specs.Food.{seenOf}
 use Rattle.unit.specs.Food.{foodChemistry}

@@ -6,7 +6,7 @@ mod stage;
 mod stretch;
 
 use difference::constants::FOOD;
-use line::record::Read;
+use food_line::record::Read;
 use reply::event::Event;
 use reply::report::Report;
 use seen::food::see;
@@ -23,7 +23,7 @@ use stretch::no_samples;
 ghost use Prim.Native.Nat.{ℕ};
 ghost use mathlib.Core.List.{List};
 ghost use mathlib.Core.Path.{_≡_};
-ghost use Rattle.line.specs.Read.{numberOf};
+ghost use Rattle.food_line.specs.Read.{numberOf};
 ghost use Rattle.rows.specs.Rows.{Answers};
 ghost use Rattle.unit.specs.Claim.{ClaimOf};
 ghost use Rattle.reply.specs.Event.{eventByte, eventRow};
@@ -88,7 +88,7 @@ pub fn take(unit: Unit, line: &[u8]) -> Taken
     ensures kept { λ r. ⌜ (eventByte (r .event) ≡ 0 → r .unit ≡ unit) ⌝ }
     ensures first { λ r. ⌜ Answers (takeRows unit (now (line .entry))) (eventRow (r .event)) ⌝ }
 {
-    let answer = line::read(line);
+    let answer = food_line::read(line);
     let Read::Whole(r) = answer else {
         return refused(unit, number_of(answer));
     };

@@ -6,11 +6,11 @@ use native.Mathlib.Omega.{arith}
 use denote.Ref.{now}
 use lib.Dec.{lit≤}
 use Rattle.difference.specs.Contribution.{food}
-use Rattle.line.specs.Fields.{recordOf}
-use Rattle.line.specs.Read.{fieldsAt, lineRows, readBy, readOf, numberOf}
-use Rattle.line.specs.declared.record.Record.{Record}
-use Rattle.line.specs.declared.record.Read.the-variants.{Whole, Refused as Unread}
-use Rattle.line.proofs.Inverse.{read-is}
+use Rattle.food_line.specs.Fields.{recordOf}
+use Rattle.food_line.specs.Read.{fieldsAt, lineRows, readBy, readOf, numberOf}
+use Rattle.food_line.specs.declared.record.Record.{Record}
+use Rattle.food_line.specs.declared.record.Read.the-variants.{Whole, Refused as Unread}
+use Rattle.food_line.proofs.Inverse.{read-is}
 use Rattle.rows.specs.Rows.{firstRow, Answers}
 use Rattle.rows.proofs.RowsLaws.{first-of-both, first-of-one}
 use Rattle.reply.specs.Event.{eventByte, eventRow}

@@ -128,7 +128,7 @@ its list in `src/bin/cases` and held against both modes of the peer, but for the
 const README_LINES: &str = "
 ## lines: reading alone
 
-In `crates/case_line`. For each line the number of its refusal, 01 to 07, or the line written back.
+In `crates/case_food_line`. For each line the number of its refusal, 01 to 07, or the line written back.
 
 | line | outcome | what it shows |
 |---|---|---|

@@ -4,7 +4,7 @@
 fn crate_of(list: &str) -> Option<String> {
     match list {
         "two-lines" => Some("check_sample".to_string()),
-        "lines" => Some("case_line".to_string()),
+        "lines" => Some("case_food_line".to_string()),
         "fat-over-limit"
         | "large-discrepancy"
         | "readmitted"

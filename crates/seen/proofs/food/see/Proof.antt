@@ -2,9 +2,9 @@
 use Prim.Native.Nat.{ℕ}
 use mathlib.Core.Path.{_≡_, _∙_}
 use mathlib.Core.List.{List}
-use Rattle.line.specs.Read.{readOf}
-use Rattle.line.specs.declared.record.Record.{Record}
-use Rattle.line.specs.declared.record.Read.the-variants.{Whole}
+use Rattle.food_line.specs.Read.{readOf}
+use Rattle.food_line.specs.declared.record.Record.{Record}
+use Rattle.food_line.specs.declared.record.Read.the-variants.{Whole}
 use Rattle.seen.specs.Food.{seenOf, seenOfAny}
 use Rattle.seen.specs.declared.Seen.{Seen}
 use Rattle.seen.proofs.FoodLaws.{never-refused}

@@ -1,0 +1,91 @@
+// A line of a check sample: 68 digits read to a record, and a record written back as a line.
+
+mod amount;
+mod field_rows;
+mod fields;
+pub mod record;
+
+use amount::amount_of;
+use digits::read_digits;
+use digits::write_digits;
+use field_rows::first_row;
+use fields::BYTES;
+use fields::bytes_in;
+use fields::fields_in;
+use fields::fields_of;
+use fields::record_of;
+use record::Amount;
+use record::Read;
+use record::Reading;
+use record::Record;
+use record::Written;
+use rows::refusal::DIGIT;
+use rows::refusal::LENGTH;
+use rows::refusal::SHORT;
+ghost use mathlib.Core.Path.{_≡_};
+ghost use Rattle.rows.specs.Rows.{Answers};
+ghost use Rattle.food_line.specs.Amount.{amountOf};
+ghost use Rattle.food_line.specs.Inverse.{WritesBack, ReadsBack};
+ghost use Rattle.food_line.specs.Read.{readOf, lineRows, readRow};
+ghost use Rattle.food_line.specs.Write.{writtenOf, bufferAfter, writeRows, writtenRow, BufferKept};
+
+// How many digits a line has.
+pub const DIGITS: usize = 68;
+
+// The record that a line holds, or the number of the first row that refuses it.
+// `whole`: the answer is the definition's. `back`: writing the record returns the line.
+// `first`: a line is refused exactly where a row fits, with the number of the first that does.
+pub fn read(line: &[u8]) -> Read
+    ensures whole { λ r. ⌜ r ≡ readOf (now (line .entry)) ⌝ }
+    ensures back { λ r. ⌜ WritesBack (now (line .entry)) r ⌝ }
+    ensures first { λ r. ⌜ Answers (lineRows (now (line .entry))) (readRow r) ⌝ }
+{
+    if line.len() != DIGITS {
+        return Read::Refused(LENGTH);
+    }
+    let mut bytes = [0u8; BYTES];
+    if !read_digits(line, &mut bytes) {
+        return Read::Refused(DIGIT);
+    }
+    let fields = fields_in(&bytes);
+    let row = first_row(fields);
+    if row != 0 {
+        return Read::Refused(row);
+    }
+    Read::Whole(record_of(fields))
+}
+
+// Puts the line of a record at the start of a buffer, or leaves the buffer alone and gives the
+// number of the first row that refuses.
+// `answer` and `bytes`: the answer and every byte of the buffer are the definitions'. `back`: reading
+// what was written returns the record. `kept`: a refusal changes no byte. `first`: as for `read`.
+pub fn write(record: Record, buffer: &mut [u8]) -> Written
+    ensures answer { λ r. ⌜ r ≡ writtenOf «record» (now (buffer .entry)) ⌝ }
+    ensures bytes { λ r. ⌜ now (buffer .exit) ≡ bufferAfter «record» (now (buffer .entry)) ⌝ }
+    ensures back { λ r. ⌜ ReadsBack «record» (now (buffer .exit)) r ⌝ }
+    ensures kept { λ r. ⌜ BufferKept (now (buffer .entry)) (now (buffer .exit)) r ⌝ }
+    ensures first { λ r. ⌜ Answers (writeRows «record» (now (buffer .entry))) (writtenRow r) ⌝ }
+{
+    if buffer.len() < DIGITS {
+        return Written::Refused(SHORT);
+    }
+    let fields = fields_of(record);
+    let row = first_row(fields);
+    if row != 0 {
+        return Written::Refused(row);
+    }
+    let bytes = bytes_in(fields);
+    write_digits(&bytes, buffer);
+    Written::Done
+}
+
+// A reading in hundredths of a percent, to the nearest, halves up. Nothing found counts as 0.
+pub fn hundredths(reading: Reading) -> Amount
+    ensures { λ r. ⌜ r ≡ amountOf reading ⌝ }
+{
+    match reading {
+        Reading::Percent(x) => amount_of(x),
+        Reading::NothingFound => Amount::Hundredths(0),
+        Reading::Lost => Amount::Unknown,
+    }
+}
