@@ -13,8 +13,8 @@ use Rattle.laws.proofs.Order.{zarith, minus, neg, canon}
 use Rattle.laws.proofs.Word.{abs, abs-neg, abs-minus}
 use Rattle.difference.specs.declared.constants.Constants.{Constants}
 use Rattle.difference.specs.bounds.Numbers.{LARGEST, Moderate, AllModerate}
-use Rattle.difference.specs.Difference.{CAP, nearest, sizeOf, differenceOf}
-use Rattle.difference.specs.Contribution.{food, incrementOf, contributionsOf, larger, variableOf, measureOf, deviantOf, limitOf}
+use Rattle.difference.specs.Difference.{CAP, nearest, sizeOf, scaledOf}
+use Rattle.difference.specs.Contribution.{food, residue, incrementOf, contributionsOf, larger, variableOf, measureOf, deviantOf, limitOf}
 
 -- between the turning points
 pub between : (high low : ℕ) (d : ℤ) → high ≤ 255 → low ≤ 255 → ltZ (pos high) d ≡ false → ltZ d (negℤ (pos low)) ≡ false → natAbs d ≤ 255
@@ -58,6 +58,9 @@ pub record Fits (c : Constants) : Type 0 where
 pub food-fits : Fits food
 food-fits = record { high = lit≤ tt; low = lit≤ tt; shift = lit≤ tt }
 
+pub residue-fits : Fits residue
+residue-fits = record { high = lit≤ tt; low = lit≤ tt; shift = lit≤ tt }
+
 -- contributions are moderate, whatever the difference
 pub moderate : (c : Constants) (d : ℤ) → Fits c → AllModerate (contributionsOf c d)
 moderate c d f =
@@ -71,9 +74,9 @@ moderate c d f =
     }
 
 -- a difference is at most CAP in size
-pub difference-small : (h : ℤ) (s : ℕ) → natAbs (differenceOf h s .tenths) ≤ CAP
-difference-small (pos n) s = omega arith
-difference-small (negsuc n) s = omega (arith, abs-neg (pos (sizeOf (suc n) s)))
+pub difference-small : (scale : ℕ) (h : ℤ) (s : ℕ) → natAbs (scaledOf scale h s .tenths) ≤ CAP
+difference-small scale (pos n) s = omega arith
+difference-small scale (negsuc n) s = omega (arith, abs-neg (pos (sizeOf (scale * suc n) s)))
 
 pub limit-not-negative : (c : Constants) (k : ℕ) → pos 0 ≤ℤ limitOf c k
 limit-not-negative c zero = omega zarith

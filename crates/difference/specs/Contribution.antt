@@ -7,6 +7,8 @@ use lib.ListN.{getD}
 use lib.Dec.{ltb}
 use lib.IntN.{ℤ, pos, negℤ, natAbs, _-ℤ_}
 use lib.Signed.{ltZ}
+use Rattle.difference.specs.declared.category.Category.{Category}
+use Rattle.difference.specs.declared.category.Category.the-variants.{Food, Residue}
 use Rattle.difference.specs.declared.constants.Constants.{Constants}
 use Rattle.difference.specs.declared.contribution.Contributions.{Contributions}
 use Rattle.difference.specs.Difference.{nearest}
@@ -25,6 +27,14 @@ CHARTS = EACH * ANALYTES
 -- food chemistry
 abbrev pub food : Constants
 food = record { analytes = 4; high = 24; low = 16; shift = 4; limit = 52 }
+
+-- document 02, request One: residues of one compound; P and N use 0.5 where food uses 0.4
+abbrev pub residue : Constants
+residue = record { analytes = 1; high = 25; low = 15; shift = 5; limit = 48 }
+
+abbrev pub constantsOf : Category → Constants
+constantsOf Food = food
+constantsOf (Residue compound) = residue
 
 -- the regulation's increment for P and N: 20 if d > high, -20 if d < -low, else d - shift
 unfoldable pub incrementOf : ℕ → ℕ → ℤ → ℤ → ℤ

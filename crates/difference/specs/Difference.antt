@@ -79,15 +79,24 @@ valueOf product analyte m = valueBy (coefficientOf product analyte m) m
 abbrev pub distance : ℕ → ℕ → ℤ
 distance reading mean = pos reading -ℤ pos mean
 
+-- what stands where nothing is standardized
+abbrev pub noDifference : Difference
+noDifference = record { tenths = pos 0 }
+
 -- the largest size of a standardized difference, in tenths
 abbrev pub CAP : ℕ
 CAP = 999
 
--- the size of the standardized difference, in tenths: |h| × 1,000,000 / s, capped at 999
+-- the size of the standardized difference, in tenths: the quotient to the nearest whole, capped at 999
 abbrev pub sizeOf : ℕ → ℕ → ℕ
-sizeOf size s = min CAP (nearest (size * 1000000) s)
+sizeOf size s = min CAP (nearest size s)
 
--- The standardized difference d, which document 01 coins: that size with the sign of h. Halves of the size go up, so those of d go away from 0.
+-- The standardized difference d, which document 01 coins, of a distance h from what it is compared with, in tenths of the value s: `scale` times |h|
+-- over s, with the sign of h. Halves of the size go up, so those of d go away from 0. One definition for every category.
+abbrev pub scaledOf : ℕ → ℤ → ℕ → Difference
+scaledOf scale (pos n) s = record { tenths = pos (sizeOf (scale * n) s) }
+scaledOf scale (negsuc n) s = record { tenths = negℤ (pos (sizeOf (scale * suc n) s)) }
+
+-- food chemistry: |h| × 1,000,000 / s
 abbrev pub differenceOf : ℤ → ℕ → Difference
-differenceOf (pos n) s = record { tenths = pos (sizeOf n s) }
-differenceOf (negsuc n) s = record { tenths = negℤ (pos (sizeOf (suc n) s)) }
+differenceOf h s = scaledOf 1000000 h s

@@ -25,3 +25,12 @@ pub const FOOD: Constants = Constants {
     shift: 4,
     limit: 52,
 };
+
+// Residues: one compound.
+pub const RESIDUE: Constants = Constants {
+    analytes: 1,
+    high: 25,
+    low: 15,
+    shift: 5,
+    limit: 48,
+};

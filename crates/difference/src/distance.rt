@@ -2,7 +2,7 @@
 use crate::difference::Difference;
 ghost use mathlib.Core.Path.{_≡_};
 ghost use mathlib.Core.Bool.{cond};
-ghost use Prim.Native.Nat.{_<_, _≤_};
+ghost use Prim.Native.Nat.{_^_, _<_, _≤_};
 ghost use lib.IntN.{pos, negℤ, natAbs};
 ghost use Rattle.difference.specs.Difference.{CAP, distance, sizeOf, differenceOf};
 
@@ -16,13 +16,12 @@ fn apart(a: u16, b: u16) -> u16
     if a < b { b - a } else { a - b }
 }
 
-// A difference of `size` hundredths without its sign, in tenths of the standardizing value `s`.
-fn scaled(size: u16, s: u32) -> u16
-    requires { ⌜ 0 < s ⌝ }
+// A size over the standardizing value `s`, to the nearest whole, capped.
+pub fn scaled(size: u64, s: u32) -> u16
+    requires { ⌜ (size < 2 ^ 48) × (0 < s) ⌝ }
     ensures { λ r. ⌜ r ≡ sizeOf size s ⌝ }
 {
-    let twice = 2 * (size as u64 * 1_000_000);
-    let nearest = (twice + s as u64) / (2 * s as u64);
+    let nearest = (2 * size + s as u64) / (2 * s as u64);
     if nearest < CAP as u64 {
         nearest as u16
     } else {
@@ -31,7 +30,7 @@ fn scaled(size: u16, s: u32) -> u16
 }
 
 // A size with its sign.
-fn signed(size: u16, negative: bool) -> i32
+pub fn signed(size: u16, negative: bool) -> i32
     requires { ⌜ size ≤ CAP ⌝ }
     ensures { λ r. ⌜ r ≡ cond negative (negℤ (pos size)) (pos size) ⌝ }
 {
@@ -39,11 +38,17 @@ fn signed(size: u16, negative: bool) -> i32
     if negative { -z } else { z }
 }
 
+// Ten-millionths, in which the value is, times ten for tenths, to a hundredth.
+const SCALE: u64 = 1_000_000;
+
 pub fn standardized(reading: u16, mean: u16, s: u32) -> Difference
     requires { ⌜ 0 < s ⌝ }
     ensures { λ r. ⌜ r ≡ differenceOf (distance reading mean) s ⌝ }
 {
     Difference {
-        tenths: signed(scaled(apart(reading, mean), s), reading < mean),
+        tenths: signed(
+            scaled(SCALE * apart(reading, mean) as u64, s),
+            reading < mean,
+        ),
     }
 }

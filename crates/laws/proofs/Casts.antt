@@ -1,25 +1,25 @@
--- A signed number of a word goes through a word of 64 bits and comes back. Assumes nothing.
+-- A signed number of a word goes through a wider word and comes back. Assumes nothing.
 use mathlib.Core.Path.{_≡_, sym, ap, _∙_, subst}
 use lib.Dec.{T, leb}
 use lib.IntN.{ℤ}
-use mir.Syntax.{Width, w64}
+use mir.Syntax.{Width}
 use mir.Val.{SFits, hbits, toZ, ofZ}
 use mir.Facts.{toZ-ofZ, sfits-widen}
 
-module _ (w : Width) (narrow : T (leb (hbits w) (hbits w64))) (z : ℤ) (f : SFits w z) where
-  wide : toZ w64 (ofZ w64 z) ≡ z
+module _ (w v : Width) (narrow : T (leb (hbits w) (hbits v))) (z : ℤ) (f : SFits w z) where
+  wide : toZ v (ofZ v z) ≡ z
   wide = toZ-ofZ (sfits-widen narrow f)
 
-  -- from 64 bits to the word
-  pub to-fits : SFits w (toZ w64 (ofZ w64 z))
+  -- from the wider word
+  pub to-fits : SFits w (toZ v (ofZ v z))
   to-fits = subst (SFits w) (sym wide) f
 
-  pub to-back : toZ w (ofZ w (toZ w64 (ofZ w64 z))) ≡ z
+  pub to-back : toZ w (ofZ w (toZ v (ofZ v z))) ≡ z
   to-back = ap (λ (y : ℤ). toZ w (ofZ w y)) wide ∙ toZ-ofZ f
 
-  -- from the word to 64 bits
-  pub from-fits : SFits w64 (toZ w (ofZ w z))
-  from-fits = subst (SFits w64) (sym (toZ-ofZ f)) (sfits-widen narrow f)
+  -- to the wider word
+  pub from-fits : SFits v (toZ w (ofZ w z))
+  from-fits = subst (SFits v) (sym (toZ-ofZ f)) (sfits-widen narrow f)
 
-  pub from-back : toZ w64 (ofZ w64 (toZ w (ofZ w z))) ≡ z
-  from-back = ap (λ (y : ℤ). toZ w64 (ofZ w64 y)) (toZ-ofZ f) ∙ wide
+  pub from-back : toZ v (ofZ v (toZ w (ofZ w z))) ≡ z
+  from-back = ap (λ (y : ℤ). toZ v (ofZ v y)) (toZ-ofZ f) ∙ wide

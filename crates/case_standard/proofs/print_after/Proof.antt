@@ -16,7 +16,7 @@ castable : (z : ℤ) → SFits w64 z → T (nonNeg z) → T (nonNeg (toZ w64 (of
 castable z s t = rw (toZ-ofZ s) (t, fits-natAbs tt s)
 
 cast-wide : tie.Need-cast-wide
-cast-wide c = from-fits w32 tt (c .args .z) (c .fits .z)
+cast-wide c = from-fits w32 w64 tt (c .args .z) (c .fits .z)
 
 slice-aggregate-write-all : tie.Need-slice-aggregate-write-all
 slice-aggregate-write-all c = search needs
@@ -28,14 +28,14 @@ sub-print-decimal : tie.Need-sub-print-decimal
 sub-print-decimal c =
     let z = c .before .before .before .args .z in
     let s = c .before .before .before .fits .z in
-    rw (from-back w32 tt z s) (turned-fits z s (rw (from-back w32 tt z s) at (c .before .before .if1 .taken)) .0)
+    rw (from-back w32 w64 tt z s) (turned-fits z s (rw (from-back w32 w64 tt z s) at (c .before .before .if1 .taken)) .0)
 
 cast-print-decimal : tie.Need-cast-print-decimal
 cast-print-decimal c =
     let z = c .before .before .before .args .z in
     let s = c .before .before .before .fits .z in
-    let b = turned-fits z s (rw (from-back w32 tt z s) at (c .before .before .if1 .taken)) in
-    rw (from-back w32 tt z s) (castable (pos 0 -ℤ z) (b .0) (b .1))
+    let b = turned-fits z s (rw (from-back w32 w64 tt z s) at (c .before .before .if1 .taken)) in
+    rw (from-back w32 w64 tt z s) (castable (pos 0 -ℤ z) (b .0) (b .1))
 
 print-decimal-requires : tie.Need-print-decimal-requires
 print-decimal-requires c κs = search needs
@@ -50,7 +50,7 @@ cast-print-decimal-2 : tie.Need-cast-print-decimal-2
 cast-print-decimal-2 c =
     let z = c .before .before .before .args .z in
     let s = c .before .before .before .fits .z in
-    rw (toZ-ofZ s) (castable z (sfits-widen tt s) (not-below z (rw (from-back w32 tt z s) at (c .before .before .if1 .left))))
+    rw (toZ-ofZ s) (castable z (sfits-widen tt s) (not-below z (rw (from-back w32 w64 tt z s) at (c .before .before .if1 .left))))
 
 print-decimal-requires-2 : tie.Need-print-decimal-requires-2
 print-decimal-requires-2 c κs = search needs

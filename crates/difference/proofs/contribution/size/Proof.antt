@@ -21,13 +21,13 @@ module _ (c : tie.Start) where
   z = c .args .z
 
   once : toZ w64 (ofZ w64 (toZ w32 (ofZ w32 z))) ≡ z
-  once = from-back w32 tt z (c .fits .z)
+  once = from-back w32 w64 tt z (c .fits .z)
 
   small : natAbs z ≤ 2 ^ 31
   small = omega (arith, c .fits .z .sfits, abs z, size z, canon z)
 
 cast-wide : tie.Need-cast-wide
-cast-wide c = from-fits w32 tt (z c) (c .fits .z)
+cast-wide c = from-fits w32 w64 tt (z c) (c .fits .z)
 
 sub-result : tie.Need-sub-result
 sub-result c = let s = c .before in rw (once s) (turned-fits (z s) (s .fits .z) (rw (once s) at (c .if1 .taken)) .0)

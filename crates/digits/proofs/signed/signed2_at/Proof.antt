@@ -2,7 +2,7 @@
 use borrow.Author.Needs.{needs}
 use native.Mathlib.Omega.{arith}
 use mathlib.Core.Path.{sym, ap, _∙_, subst}
-use mir.Syntax.{w16}
+use mir.Syntax.{w16, w64}
 use mir.Val.{SFits}
 use Rattle.digits.specs.Signed.{signedBy}
 use Rattle.laws.proofs.Casts.{to-fits, to-back}
@@ -23,10 +23,10 @@ signed-requires : tie.Need-signed-requires
 signed-requires c κs = search needs
 
 cast-result : tie.Need-cast-result
-cast-result c = to-fits w16 tt (c .signed .result) (fits c)
+cast-result c = to-fits w16 w64 tt (c .signed .result) (fits c)
 
 returns : tie.Need-returns
-returns c = to-back w16 tt (c .signed .result) (fits c) ∙ c .signed .ensures ∙ ap (signedBy 32768) (c .before .two-at .ensures)
+returns c = to-back w16 w64 tt (c .signed .result) (fits c) ∙ c .signed .ensures ∙ ap (signedBy 32768) (c .before .two-at .ensures)
 
 pub signed2-at-spec : {M : Type 1} → statement M
 signed2-at-spec = tie.close (tie.spec two-at-requires cast-signed signed-requires cast-result returns)

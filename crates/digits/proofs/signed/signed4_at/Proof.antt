@@ -2,7 +2,7 @@
 use borrow.Author.Needs.{needs}
 use native.Mathlib.Omega.{arith}
 use mathlib.Core.Path.{sym, ap, _∙_, subst}
-use mir.Syntax.{w32}
+use mir.Syntax.{w32, w64}
 use mir.Val.{SFits}
 use Rattle.digits.specs.Signed.{signedBy}
 use Rattle.laws.proofs.Casts.{to-fits, to-back}
@@ -20,10 +20,10 @@ signed-requires : tie.Need-signed-requires
 signed-requires c κs = search needs
 
 cast-result : tie.Need-cast-result
-cast-result c = to-fits w32 tt (c .signed .result) (fits c)
+cast-result c = to-fits w32 w64 tt (c .signed .result) (fits c)
 
 returns : tie.Need-returns
-returns c = to-back w32 tt (c .signed .result) (fits c) ∙ c .signed .ensures ∙ ap (signedBy 2147483648) (c .before .four-at .ensures)
+returns c = to-back w32 w64 tt (c .signed .result) (fits c) ∙ c .signed .ensures ∙ ap (signedBy 2147483648) (c .before .four-at .ensures)
 
 pub signed4-at-spec : {M : Type 1} → statement M
 signed4-at-spec = tie.close (tie.spec four-at-requires signed-requires cast-result returns)
