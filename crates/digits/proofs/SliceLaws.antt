@@ -20,7 +20,7 @@ use Rattle.digits.proofs.LoopLaws.{writtenTo}
 abbrev odd : ℕ → ℕ → Bool
 odd n m = not (eqb (n % 2) 0) || not (eqb (n / 2) m)
 
-not-twice : (n m : ℕ) → odd n m ≡ true → n ≡ 2 * m → ⊥
+pub not-twice : (n m : ℕ) → odd n m ≡ true → n ≡ 2 * m → ⊥
 not-twice n m h e =
     ⊎-elim (λ p. eqb-false (n % 2) 0 (not-true (eqb (n % 2) 0) p) (omega arith)) (λ p. eqb-false (n / 2) m (not-true (eqb (n / 2) m) p) (omega arith))
     (or-either (not (eqb (n % 2) 0)) (not (eqb (n / 2) m)) h)

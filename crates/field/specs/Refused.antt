@@ -7,7 +7,7 @@ use Rattle.percent.specs.Percent.{accepted}
 use Rattle.field.specs.declared.Means.{Means}
 use Rattle.field.specs.declared.Tagged.{Tagged}
 
--- the kinds of a line
+-- the kinds of a food line
 abbrev pub MAINTENANCE : ℕ
 MAINTENANCE = 1
 

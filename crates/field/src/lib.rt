@@ -1,11 +1,13 @@
 // Rows 3 to 7 of the refusals, each true where the row fits, and the numbers that they go by: document
-// 01, "Refused".
+// 01, "Refused". Those of a residue line stand in `residue`.
+
+pub mod residue;
 
 use percent::is_accepted;
 ghost use mathlib.Core.Path.{_≡_};
 ghost use Rattle.field.specs.Refused.{kindRow, dateRow, productRow, meanRow, readingRow};
 
-// The kinds of a line.
+// The kinds of a food line.
 pub const MAINTENANCE: u8 = 1;
 
 pub const STUDY: u8 = 2;
@@ -44,7 +46,7 @@ pub struct Tagged {
     pub bits: u32,
 }
 
-// A kind that no line has.
+// A kind that no food line has.
 pub fn kind_row(kind: u8) -> bool
     ensures { λ r. ⌜ r ≡ kindRow kind ⌝ }
 {

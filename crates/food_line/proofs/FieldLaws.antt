@@ -1,13 +1,13 @@
 -- Fields, bytes and records: the parts of the 34 bytes. Assumes nothing.
-use Prim.Native.Nat.{ℕ, zero, suc, _+_, _^_, _<_}
-use mathlib.Core.Path.{_≡_, refl, sym, ap, _∙_}
+use Prim.Native.Nat.{ℕ, suc, _+_}
+use mathlib.Core.Path.{_≡_, sym, ap, _∙_}
 use mathlib.Core.List.{List, [], _∷_}
 use native.Mathlib.Numerals.{add-one}
 use native.Mathlib.Omega.{arith}
 use lib.ListN.{length, getD, set}
 use lib.Seq.{sets}
-use Rattle.digits.specs.Numbers.{AreBytes, oneAt, twoAt, fourAt, numberBytes}
-use Rattle.digits.proofs.NumberLaws.{byte-at, number-lt, bytes-back as number-bytes}
+use Rattle.digits.specs.Numbers.{AreBytes, oneAt, twoAt, numberBytes}
+use Rattle.format.proofs.Parts.{tabulate, tabulated, two-split, four-split}
 use Rattle.food_line.specs.Fields.{lineBytes, tagged, bytes5, bytesIn, fieldsIn}
 use Rattle.food_line.specs.declared.fields.Fields.{Fields}
 use Rattle.field.specs.declared.Tagged.{Tagged}
@@ -87,32 +87,14 @@ gather f ey em ep et es ea eb ec ed = rw (ey, em, ep, et, es, ea, eb, ec, ed)
 
 -- ---- 34 bytes, read and gathered again
 
-abbrev tabulate : ℕ → (ℕ → ℕ) → List ℕ
-tabulate zero f = []
-tabulate (suc n) f = f 0 ∷ tabulate n (λ k. f (suc k))
-
-tabulated : (l : List ℕ) → l ≡ tabulate (length l) (λ k. getD l k 0)
-tabulated [] = refl
-tabulated (a ∷ l) = ap (λ (m : List ℕ). a ∷ m) (tabulated l)
-
 module _ (bs : List ℕ) (A : AreBytes bs) where
-  four-are : (i : ℕ) → AreBytes (getD bs i 0 ∷ getD bs (i + 1) 0 ∷ getD bs (i + 2) 0 ∷ getD bs (i + 3) 0 ∷ [])
-  four-are i = (byte-at bs A i, (byte-at bs A (i + 1), (byte-at bs A (i + 2), (byte-at bs A (i + 3), tt))))
-
-  pub bits-lt : (i : ℕ) → fourAt bs i < 2 ^ 32
-  bits-lt i = number-lt (getD bs i 0 ∷ getD bs (i + 1) 0 ∷ getD bs (i + 2) 0 ∷ getD bs (i + 3) 0 ∷ []) (four-are i)
-
-  two-split : (i : ℕ) → getD bs i 0 ∷ getD bs (i + 1) 0 ∷ [] ≡ numberBytes 2 (twoAt bs i)
-  two-split i = sym (number-bytes (getD bs i 0 ∷ getD bs (i + 1) 0 ∷ []) (byte-at bs A i, (byte-at bs A (i + 1), tt)))
-
   tagged-split : (i : ℕ) → getD bs i 0 ∷ getD bs (i + 1) 0 ∷ getD bs (i + 1 + 1) 0 ∷ getD bs (i + 1 + 2) 0 ∷ getD bs (i + 1 + 3) 0 ∷ [] ≡ bytes5 (tagged bs i)
-  tagged-split i =
-      ap (λ (l : List ℕ). getD bs i 0 ∷ l)
-      (sym (number-bytes (getD bs (i + 1) 0 ∷ getD bs (i + 1 + 1) 0 ∷ getD bs (i + 1 + 2) 0 ∷ getD bs (i + 1 + 3) 0 ∷ []) (four-are (i + 1))))
+  tagged-split i = ap (λ (l : List ℕ). getD bs i 0 ∷ l) (four-split bs A (i + 1))
 
   pub bytes-back : length bs ≡ lineBytes → bytesIn (fieldsIn bs) ≡ bs
   bytes-back e =
+      let two = two-split bs A in
       sym
       (tabulated bs
       ∙ ap (λ (n : ℕ). tabulate n (λ k. getD bs k 0)) e
-      ∙ gather (fieldsIn bs) (two-split 1) (two-split 6) (two-split 8) (two-split 10) (two-split 12) (tagged-split 14) (tagged-split 19) (tagged-split 24) (tagged-split 29))
+      ∙ gather (fieldsIn bs) (two 1) (two 6) (two 8) (two 10) (two 12) (tagged-split 14) (tagged-split 19) (tagged-split 24) (tagged-split 29))

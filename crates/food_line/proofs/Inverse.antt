@@ -1,27 +1,24 @@
 -- Reading and writing are inverse. Assumes nothing.
 use Prim.Native.Nat.{ℕ, zero, suc, _^_, _≤_, _<_}
 use mathlib.Core.Path.{_≡_, refl, sym, ap, ap₂, _∙_, subst}
-use mathlib.Core.Bool.{Bool, true, false, cond, not}
-use mathlib.Core.List.{List, [], _∷_}
+use mathlib.Core.Bool.{Bool, false, cond, not}
+use mathlib.Core.List.{List}
 use mathlib.Core.Logic.{_⊎_, inl, inr, ⊎-elim}
 use native.Mathlib.Omega.{arith}
-use borrow.Author.Tests.{eqb-true, not-false}
 use lib.Dec.{T, eqb}
-use lib.ListN.{length, take, drop}
-use lib.Seq.{take-at}
+use lib.ListN.{length}
 use lib.Ieee.{binary32, ofBits, toBits}
 use lib.Ieee.Bits.{ofBits-toBits, toBits-ofBits, toBits-lt, nanBits-is}
 use Rattle.rows.specs.Rows.{firstRow}
-use Rattle.rows.proofs.RowsLaws.{passed}
-use Rattle.digits.specs.Digits.{areDigits, bytesOf, digitsOf}
-use Rattle.digits.specs.Numbers.{BYTE, AreBytes, numberBytes}
+use Rattle.digits.specs.Digits.{bytesOf, digitsOf}
+use Rattle.digits.specs.Numbers.{AreBytes}
 use Rattle.food_line.specs.Fields.{lineLength, lineBytes, bytes5, fieldsIn, bytesIn, readingOf, taggedOf, recordOf, fieldsOf}
 use Rattle.food_line.specs.bounds.Types.{Typed, TypedReading}
-use Rattle.food_line.specs.Inverse.{WritesBack}
+use Rattle.food_line.specs.Inverse.{WritesBack, ReadsBack}
 use Rattle.food_line.specs.Read.{fieldsAt, lineRows, readBy, readOf}
 use Rattle.food_line.specs.FieldRows.{fieldRows}
 use Rattle.field.specs.Refused.{readingRow}
-use Rattle.food_line.specs.Write.{lineOf}
+use Rattle.food_line.specs.Write.{lineOf, writtenOf, bufferAfter}
 use Rattle.food_line.specs.declared.fields.Fields.{Fields}
 use Rattle.field.specs.declared.Tagged.{Tagged}
 use Rattle.food_line.specs.declared.record.Record.{Record}
@@ -31,10 +28,12 @@ use Rattle.food_line.specs.declared.record.Read.the-variants.{Whole}
 use Rattle.percent.proofs.PercentLaws.{percent-bits, not-nan}
 use Rattle.digits.proofs.NumberLaws.{number-back, numberBytes-are}
 use Rattle.digits.proofs.ByteLaws.{length-digitsOf, digitsOf-are, bytes-digits, digits-bytes, bytesOf-are, length-bytesOf}
-use Rattle.food_line.proofs.FieldLaws.{bits-lt, bytes-back}
+use Rattle.format.proofs.Parts.{Then, then, two-then, four-lt}
+use Rattle.format.proofs.ReadLaws as form
+use Rattle.format.proofs.WriteLaws.{written-whole, done-own, done-digits}
+use Rattle.food_line.proofs.FieldLaws.{bytes-back}
 use Rattle.food_line.proofs.ReadLaws.{read-whole}
 use Rattle.food_line.proofs.RowLaws.{Clean, clean, good-reading}
-use Rattle.food_line.proofs.WriteLaws.{done}
 
 -- ---- one reading
 
@@ -92,23 +91,17 @@ read-is line r e = go (firstRow (lineRows line)) refl e
     go (suc n) q e = let z : _≡_ {A = ℕ} 0 1 = cc in absurd (omega arith)
 
 -- what it says of a line that no row fits
-pub record Good (line : List ℕ) : Type 0 where
-  pub long : length line ≡ lineLength
-  pub digits : areDigits line ≡ true
-  pub rows : firstRow (fieldRows (fieldsAt line)) ≡ 0
+abbrev pub Good : List ℕ → Type 0
+Good line = form.Good lineLength line (fieldRows (fieldsAt line))
 
 pub good : (line : List ℕ) → firstRow (lineRows line) ≡ 0 → Good line
-unfolding firstRow
-good line e =
-    let l = passed _ _ _ e in
-    let d = passed _ _ _ (l .1) in
-    record { long = eqb-true (length line) lineLength (not-false _ (l .0)); digits = not-false _ (d .0); rows = d .1 }
+good line = form.good lineLength line (fieldRows (fieldsAt line))
 
 fields-again : (line : List ℕ) → Good line → fieldsOf (recordOf (fieldsAt line)) ≡ fieldsAt line
 fields-again line g =
     let A = bytesOf-are line (g .digits) in
     let bs = bytesOf line in
-    fields-back (fieldsAt line) (bits-lt bs A 15) (bits-lt bs A 20) (bits-lt bs A 25) (bits-lt bs A 30) (clean (fieldsAt line) (g .rows))
+    fields-back (fieldsAt line) (four-lt bs A 15) (four-lt bs A 20) (four-lt bs A 25) (four-lt bs A 30) (clean (fieldsAt line) (g .rows))
 
 line-again : (line : List ℕ) → Good line → lineOf (recordOf (fieldsAt line)) ≡ line
 line-again line g =
@@ -122,12 +115,14 @@ line-back line r e = let p = read-is line r e in ap lineOf (p .1) ∙ line-again
 
 -- Writing what was read returns the same line: into any buffer with room, writing is not refused, and the first 68 bytes are the line.
 pub written-again : (line : List ℕ) → WritesBack line (readOf line)
+unfolding writtenOf bufferAfter
 written-again line r e buffer h =
     let p = read-is line r e in
     let g = good line (p .0) in
     let same = line-back line r e in
-    let d = done r buffer h (ap (λ (q : Record). firstRow (fieldRows (fieldsOf q))) (p .1) ∙ ap (λ (f : Fields). firstRow (fieldRows f)) (fields-again line g) ∙ g .rows) in
-    (sym (d .0), ap (take lineLength) (sym (d .1)) ∙ take-at (lineOf r) (drop lineLength buffer) lineLength (ap length same ∙ g .long) ∙ same)
+    let rows = ap (λ (q : Record). firstRow (fieldRows (fieldsOf q))) (p .1) ∙ ap (λ (f : Fields). firstRow (fieldRows f)) (fields-again line g) ∙ g .rows in
+    let w = written-whole lineLength buffer (fieldRows (fieldsOf r)) (lineOf r) (ap length same ∙ g .long) h rows in
+    (w .0, w .1 ∙ same)
 
 -- ---- a record that was written is read back
 
@@ -149,18 +144,6 @@ typed-bits (Percent x) h = toBits-lt binary32 x h
 typed-bits NothingFound h = omega arith
 typed-bits Lost h = omega arith
 
--- bytes, and what is known of the rest
-abbrev Then : List ℕ → Type 0 → Type 0
-Then [] P = P
-Then (b ∷ bs) P = (b < BYTE) × Then bs P
-
-then : {P : Type 0} (bs : List ℕ) → AreBytes bs → P → Then bs P
-then [] A p = p
-then (b ∷ bs) A p = (A .0, then bs (A .1) p)
-
-two-then : {P : Type 0} (n : ℕ) → n < 65536 → P → Then (numberBytes 2 n) P
-two-then n h = then (numberBytes 2 n) (numberBytes-are 2 n h)
-
 five-then : {P : Type 0} (x : Reading) → TypedReading x → P → Then (bytes5 (taggedOf x)) P
 five-then x h = then (bytes5 (taggedOf x)) (tag-lt x, numberBytes-are 4 (taggedOf x .bits) (typed-bits x h))
 
@@ -175,11 +158,19 @@ typed-bytes r h =
     (h .kind, two-then (r .year) (h .year) (h .month, (h .days, (h .product, means))))
 
 -- Reading what was written returns the same record, bit for bit, for every record that the code can hold and that no row refuses.
-pub read-again : (r : Record) → Typed r → firstRow (fieldRows (fieldsOf r)) ≡ 0 → readOf (lineOf r) ≡ Whole r
+read-again : (r : Record) → Typed r → firstRow (fieldRows (fieldsOf r)) ≡ 0 → readOf (lineOf r) ≡ Whole r
 read-again r h e =
+    let f = fieldsOf r in
     let A = typed-bytes r h in
-    let bytes : bytesOf (lineOf r) ≡ bytesIn (fieldsOf r) = bytes-digits (bytesIn (fieldsOf r)) A in
-    let same : fieldsAt (lineOf r) ≡ fieldsOf r = ap fieldsIn bytes ∙ fields-in-again (fieldsOf r) in
-    read-whole (lineOf r) (length-digitsOf (bytesIn (fieldsOf r))) (digitsOf-are (bytesIn (fieldsOf r)) A) (ap (λ (f : Fields). firstRow (fieldRows f)) same ∙ e)
-    ∙ ap (λ (f : Fields). Whole (recordOf f)) same
+    let same : fieldsAt (lineOf r) ≡ f = ap fieldsIn (bytes-digits (bytesIn f) A) ∙ fields-in-again f in
+    let own = form.own-row lineLength (lineOf r) (fieldRows (fieldsAt (lineOf r))) (length-digitsOf (bytesIn f)) (digitsOf-are (bytesIn f) A) in
+    sym (read-whole (lineOf r) (sym (ap (λ (g : Fields). firstRow (fieldRows g)) same ∙ e) ∙ own))
+    ∙ ap (λ (g : Fields). Whole (recordOf g)) same
     ∙ ap Whole (record-back r h)
+
+pub reads-back : (r : Record) (buffer : List ℕ) → Typed r → ReadsBack r (bufferAfter r buffer) (writtenOf r buffer)
+unfolding writtenOf bufferAfter
+reads-back r buffer h e =
+    let own = fieldRows (fieldsOf r) in
+    ap readOf (done-digits lineLength buffer own (lineOf r) (length-digitsOf (bytesIn (fieldsOf r))) e)
+    ∙ read-again r h (done-own lineLength buffer own e)

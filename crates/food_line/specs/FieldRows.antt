@@ -1,5 +1,5 @@
--- Document 01, "Refused": rows 3 to 7 of a line or of a record. Rows 1 and 2 stand in Read, 13 in Write. Which row is given: `firstRow` of the crate
--- `rows`.
+-- Document 01, "Refused": rows 3 to 7 of a line or of a record. Rows 1, 2 and 13, which come before, stand in the crate `format`.
+-- Which row is given: `firstRow` of the crate `rows`.
 use mathlib.Core.Bool.{_||_}
 use mathlib.Core.List.{List, [], _∷_}
 use Rattle.rows.specs.Refusal.{KIND, DATE, PRODUCT, MEAN, READING}

@@ -1,14 +1,12 @@
 -- What reading a line gives: document 01, "The line" and rows 1 to 7 of "Refused".
-use Prim.Native.Nat.{ℕ, zero, suc}
-use mathlib.Core.Bool.{not}
-use mathlib.Core.List.{List, _∷_}
-use lib.Dec.{eqb}
-use lib.ListN.{length}
+use Prim.Native.Nat.{ℕ}
+use mathlib.Core.List.{List, _++_}
 use Rattle.rows.specs.Rows.{Row, firstRow, Given, no-row, a-row}
-use Rattle.digits.specs.Digits.{areDigits, bytesOf}
+use Rattle.digits.specs.Digits.{bytesOf}
+use Rattle.format.specs.Answer.{byRow}
+use Rattle.format.specs.Read.{formRows}
 use Rattle.food_line.specs.Fields.{lineLength, fieldsIn, recordOf}
 use Rattle.food_line.specs.FieldRows.{fieldRows}
-use Rattle.rows.specs.Refusal.{LENGTH, DIGIT}
 use Rattle.food_line.specs.declared.fields.Fields.{Fields}
 use Rattle.food_line.specs.declared.record.Record.{Record}
 use Rattle.food_line.specs.declared.record.Read.{Read}
@@ -18,17 +16,13 @@ use Rattle.food_line.specs.declared.record.Read.the-variants.{Whole, Ref
 abbrev pub fieldsAt : List ℕ → Fields
 fieldsAt line = fieldsIn (bytesOf line)
 
--- rows 1 to 7, in the table's order
+-- rows 1 and 2 come first, then 3 to 7
 abbrev pub lineRows : List ℕ → List Row
-lineRows line =
-    record { number = LENGTH; fits = not (eqb (length line) lineLength) }
-    ∷ record { number = DIGIT; fits = not (areDigits line) }
-    ∷ fieldRows (fieldsAt line)
+lineRows line = formRows lineLength line ++ fieldRows (fieldsAt line)
 
 -- the record where no row fits, else the row's number
 unfoldable pub readBy : ℕ → Record → Read
-readBy zero r = Whole r
-readBy (suc row) r = Refused (suc row)
+readBy row r = byRow (Whole r) Refused row
 
 unfoldable pub readOf : List ℕ → Read
 unfolding readBy firstRow
@@ -40,6 +34,6 @@ readRow (Whole r) = no-row
 readRow (Refused n) = a-row n
 
 -- the number of an answer, 0 for a record that was read
-abbrev pub numberOf : Read → ℕ
-numberOf (Whole r) = 0
-numberOf (Refused n) = n
+abbrev pub refusalOf : Read → ℕ
+refusalOf (Whole r) = 0
+refusalOf (Refused n) = n

@@ -1,4 +1,4 @@
-// A line of a check sample: 68 digits read to a record, and a record written back as a line.
+// A line of a food check sample: 68 digits read to a record, and a record written back as a line.
 
 mod amount;
 mod field_rows;
@@ -6,31 +6,29 @@ mod fields;
 pub mod record;
 
 use amount::amount_of;
-use digits::read_digits;
-use digits::write_digits;
 use field_rows::first_row;
 use fields::BYTES;
 use fields::bytes_in;
 use fields::fields_in;
 use fields::fields_of;
 use fields::record_of;
+use format::Written;
+use format::read_line;
+use format::write_line;
 use record::Amount;
 use record::Read;
 use record::Reading;
 use record::Record;
-use record::Written;
-use rows::refusal::DIGIT;
-use rows::refusal::LENGTH;
-use rows::refusal::SHORT;
 ghost use mathlib.Core.Path.{_≡_};
 ghost use Rattle.rows.specs.Rows.{Answers};
+ghost use Rattle.format.specs.Write.{writtenRow, BufferKept};
 ghost use Rattle.food_line.specs.Amount.{amountOf};
 ghost use Rattle.food_line.specs.Inverse.{WritesBack, ReadsBack};
 ghost use Rattle.food_line.specs.Read.{readOf, lineRows, readRow};
-ghost use Rattle.food_line.specs.Write.{writtenOf, bufferAfter, writeRows, writtenRow, BufferKept};
+ghost use Rattle.food_line.specs.Write.{writtenOf, bufferAfter, writeRows};
 
 // How many digits a line has.
-pub const DIGITS: usize = 68;
+pub const DIGITS: usize = 2 * BYTES;
 
 // The record that a line holds, or the number of the first row that refuses it.
 // `whole`: the answer is the definition's. `back`: writing the record returns the line.
@@ -40,12 +38,10 @@ pub fn read(line: &[u8]) -> Read
     ensures back { λ r. ⌜ WritesBack (now (line .entry)) r ⌝ }
     ensures first { λ r. ⌜ Answers (lineRows (now (line .entry))) (readRow r) ⌝ }
 {
-    if line.len() != DIGITS {
-        return Read::Refused(LENGTH);
-    }
     let mut bytes = [0u8; BYTES];
-    if !read_digits(line, &mut bytes) {
-        return Read::Refused(DIGIT);
+    let form = read_line(line, &mut bytes);
+    if form != 0 {
+        return Read::Refused(form);
     }
     let fields = fields_in(&bytes);
     let row = first_row(fields);
@@ -66,17 +62,9 @@ pub fn write(record: Record, buffer: &mut [u8]) -> Written
     ensures kept { λ r. ⌜ BufferKept (now (buffer .entry)) (now (buffer .exit)) r ⌝ }
     ensures first { λ r. ⌜ Answers (writeRows «record» (now (buffer .entry))) (writtenRow r) ⌝ }
 {
-    if buffer.len() < DIGITS {
-        return Written::Refused(SHORT);
-    }
     let fields = fields_of(record);
-    let row = first_row(fields);
-    if row != 0 {
-        return Written::Refused(row);
-    }
     let bytes = bytes_in(fields);
-    write_digits(&bytes, buffer);
-    Written::Done
+    write_line(first_row(fields), &bytes, buffer)
 }
 
 // A reading in hundredths of a percent, to the nearest, halves up. Nothing found counts as 0.

@@ -34,12 +34,6 @@ pub enum Read {
     Refused(u8),
 }
 
-// What writing a record gives: the line stands in the buffer, or the number of the refusal.
-pub enum Written {
-    Done,
-    Refused(u8),
-}
-
 // A reading in hundredths of a percent. A lost reading has no amount, nor has a percent that no
 // line holds.
 pub enum Amount {

@@ -22,6 +22,7 @@ pub record Shows (K : ℕ) (limit : ℕ → ℤ) (s : Charts) (two : Bool) (show
   pub opened : shown .opened ≡ true ↔ ((shown .misses ≡ true) ⊎ ((c : ℕ) × (c < K) × (shown .over c ≡ true)))
   pub misses : shown .misses ≡ two
   pub over-is : (c : ℕ) → c < K → shown .over c ≡ over (limit c) (s .value c)
+  pub others : (c : ℕ) → K ≤ c → shown .over c ≡ false
   pub first : (c : ℕ) → c < K → shown .over c ≡ true → shown .first c ≡ s .first c
   pub last : (c : ℕ) → c < K → shown .over c ≡ true → shown .last c ≡ s .samples
   pub value : (c : ℕ) → c < K → shown .over c ≡ true → shown .value c ≡ s .value c
@@ -63,6 +64,7 @@ module _ (K : ℕ) (limit : ℕ → ℤ) (low : Low K limit) (es : List Entry) (
     );
     misses = two-misses;
     charts = charts;
+    others = shows .others;
     runs = λ c h o. rw (shows .first c h o, shows .last c h o, shows .value c h o) (right-run c h (sym (shows .over-is c h) ∙ o));
   }
     where

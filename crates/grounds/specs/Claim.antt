@@ -1,6 +1,6 @@
 -- Demand 3, over the entries since admission: K charts with their limits, and what is named and shown after them.
 use mathlib.Core.Path.{_≡_}
-use mathlib.Core.Bool.{Bool, true}
+use mathlib.Core.Bool.{Bool, true, false}
 use mathlib.Core.Logic.{_↔_, _⊎_}
 use mathlib.Core.List.{List}
 use Prim.Native.Nat.{ℕ, _≤_, _<_}
@@ -56,5 +56,7 @@ pub record Claim (K : ℕ) (limit : ℕ → ℤ) (es : List Entry) (shown : Grou
   pub misses : shown .misses ≡ true ↔ TwoMisses es
   -- a chart is named exactly when there is such a run on it
   pub charts : (c : ℕ) → c < K → (shown .over c ≡ true ↔ SomeRun limit es c)
-  -- and then the run shown is right
+  -- no chart is named that there is not
+  pub others : (c : ℕ) → K ≤ c → shown .over c ≡ false
+  -- of a chart that is named the run shown is right
   pub runs : (c : ℕ) → c < K → shown .over c ≡ true → RightRun K limit es c (shown .first c) (shown .last c) (shown .value c)

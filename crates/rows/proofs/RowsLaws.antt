@@ -1,10 +1,10 @@
 -- The first row that fits is given, and only then; and the first of two tables, one after the other. Assumes nothing.
 use Prim.Native.Nat.{ℕ, zero, suc}
 use mathlib.Core.Path.{_≡_, refl, sym, ap, ap₂, subst}
-use mathlib.Core.Bool.{Bool, true, false, cond, not, _&&_}
+use mathlib.Core.Bool.{Bool, true, false, cond, not, _&&_, _||_, or-true}
 use mathlib.Core.List.{List, [], _∷_, _++_}
 use native.Mathlib.Omega.{arith}
-use borrow.Author.Tests.{eqb-false, ne-eqb, not-true}
+use borrow.Author.Tests.{eq-eqb, eqb-false, ne-eqb, not-true}
 use lib.Dec.{eqb}
 use Rattle.laws.proofs.Bools.{and-both, or-neither}
 use Rattle.rows.specs.Rows.{Row, firstRow, anyFits, hasNumber, distinct, givenBy, Answers, FirstGiven}
@@ -75,6 +75,17 @@ first-given (r ∷ rows) d = let t = table r rows d in go t (first-given rows (t
 pub passed : (n : ℕ) (b : Bool) (rest : ℕ) → cond b (suc n) rest ≡ 0 → (b ≡ false) × (rest ≡ 0)
 passed n true rest e = absurd (omega arith)
 passed n false rest e = (refl, e)
+
+-- the number that is given is a row's
+pub first-has : (rows : List Row) (n : ℕ) → firstRow rows ≡ suc n → hasNumber (suc n) rows ≡ true
+unfolding firstRow hasNumber
+first-has [] n e = absurd (omega arith)
+first-has (r ∷ rows) n e = go (first-has rows n) (r .fits) e
+  where
+    go : (firstRow rows ≡ suc n → hasNumber (suc n) rows ≡ true) → (f : Bool) → cond f (r .number) (firstRow rows) ≡ suc n
+        → (eqb (r .number) (suc n) || hasNumber (suc n) rows) ≡ true
+    go rest true e = rw (eq-eqb (r .number) (suc n) e)
+    go rest false e = rw (rest e) (or-true (eqb (r .number) (suc n)))
 
 -- ---- two tables, one after the other
 

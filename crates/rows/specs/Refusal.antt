@@ -1,4 +1,4 @@
--- Document 01, "Refused": the numbers of rows 1 to 7 and 13.
+-- Document 01, "Refused": the numbers of rows 1 to 7 and 13; and of rows 14 and 15, document 02, request One.
 use Prim.Native.Nat.{ℕ}
 
 abbrev pub LENGTH : ℕ
@@ -24,3 +24,9 @@ READING = 7
 
 abbrev pub SHORT : ℕ
 SHORT = 13
+
+abbrev pub COMPOUND : ℕ
+COMPOUND = 14
+
+abbrev pub LOG : ℕ
+LOG = 15

@@ -1,4 +1,5 @@
-// The numbers of rows 1 to 7 and 13, document 01, "Refused".
+// The numbers of rows 1 to 7 and 13, document 01, "Refused", and of rows 14 and 15, document 02,
+// request One.
 
 pub const LENGTH: u8 = 1;
 
@@ -15,3 +16,7 @@ pub const MEAN: u8 = 6;
 pub const READING: u8 = 7;
 
 pub const SHORT: u8 = 13;
+
+pub const COMPOUND: u8 = 14;
+
+pub const LOG: u8 = 15;

@@ -1,2 +1,0 @@
--- What the program prints for a line.
-pub mod Answer
