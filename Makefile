@@ -1,6 +1,6 @@
-# test: the gate. run: proves what the program needs, builds it and runs it on standard input.
+# test: the gate. run, run-residue: prove what the food or the residue program needs, build it and run it on standard input.
 # peer, bench, view: evidence from outside, no part of the gate (peer/README.md). make view LIST=FILE draws the charts of a list.
-.PHONY: test run peer bench view
+.PHONY: test run run-residue peer bench view
 
 test:
 	@.ci/run
@@ -8,6 +8,10 @@ test:
 run:
 	@rt check check_sample </dev/null >&2
 	@target/bin/check_sample
+
+run-residue:
+	@rt check check_residue </dev/null >&2
+	@target/bin/check_residue
 
 peer:
 	@peer/check

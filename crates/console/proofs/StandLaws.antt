@@ -1,7 +1,7 @@
 -- What a byte does to a console that stands for a unit and an input: it then stands for the input with the byte, and the text grew by its answer.
 -- Assumes nothing.
 use Prim.Native.Nat.{ℕ, _+_, _≤_, _<_}
-use mathlib.Core.Path.{_≡_, refl, sym, ap, _∙_}
+use mathlib.Core.Path.{_≡_, refl, sym, ap, _∙_, subst}
 use mathlib.Core.Bool.{true, false}
 use mathlib.Core.Logic.{⊎-elim}
 use mathlib.Core.List.{List, [], _∷_, _++_, append-assoc, append-nil}
@@ -12,10 +12,10 @@ use lib.Dec.{ltb, eqb}
 use lib.ListN.{length, take, set, length-append, length-set, length-take}
 use lib.Seq.{take-all, take-suc-set, take-append-le, length-take-le, append-snoc}
 use Rattle.laws.proofs.Bools.{either}
-use Rattle.unit.specs.Take.{newUnit, takenOf}
+use Rattle.unit.specs.Take.{takenOf}
 use Rattle.unit.specs.declared.Unit as U
 use Rattle.unit.specs.Reached.{after, Reached as ReachedUnit}
-use Rattle.unit.proofs.Reach.{after-append}
+use Rattle.unit.proofs.Reach.{after-append, reached-after}
 use Rattle.console.specs.declared.Console.{Console}
 use Rattle.text.specs.Text.{NEWLINE, answerText}
 use Rattle.console.specs.Lines.{endedAfter, restAfter, ended, rest}
@@ -25,9 +25,7 @@ use Rattle.console.specs.Stands.{Stands, Reached}
 use Rattle.console.proofs.LineLaws.{ended-newline, rest-newline, ended-other, rest-other, answers-append, taken-cut}
 
 pub reached : (c : Console) → Reached c → ReachedUnit (c .unit)
-reached c m =
-    let lines = m .1 .0 in
-    (lines ++ ended (m .2), after-append newUnit lines (ended (m .2)) ∙ ap (λ (u : U.Unit). after u (ended (m .2))) (m .1 .1) ∙ sym (m .3 .unit))
+reached c m = subst ReachedUnit (sym (m .3 .unit)) (reached-after (m .0) (ended (m .2)) (m .1))
 
 -- ---- the cases of a step
 

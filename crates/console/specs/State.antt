@@ -12,7 +12,7 @@ use Rattle.unit.specs.declared.Unit as U
 use Rattle.text.specs.Text.{NEWLINE, answerText}
 use Rattle.console.specs.declared.Console.{Console}
 
--- how many bytes of a line are held: one more than a line has
+-- how many bytes of a line are held: one more than the longest line of any category has, which is food's
 abbrev pub HELD : ℕ
 HELD = suc lineLength
 

@@ -40,11 +40,11 @@ constantsOf (Residue compound) = residue
 unfoldable pub incrementOf : ℕ → ℕ → ℤ → ℤ → ℤ
 incrementOf high low shift d = cond (ltZ (pos high) d) (pos 20) (cond (ltZ d (negℤ (pos low))) (negℤ (pos 20)) (d -ℤ shift))
 
--- P: 20 if d > 24; -20 if d < -16; else d - 4
+-- P, of food: 20 if d > 24; -20 if d < -16; else d - 4. Of residues with 25, 15 and 5
 abbrev pub positiveOf : Constants → ℤ → ℤ
 positiveOf c d = incrementOf (c .high) (c .low) (pos (c .shift)) d
 
--- N: -20 if d > 16; 20 if d < -24; else -(d + 4). The increment is subtracted from the chart, so the contribution is its negation.
+-- N, of food: -20 if d > 16; 20 if d < -24; else -(d + 4). Of residues with 15, 25 and 5. The increment is subtracted from the chart, so the contribution is its negation.
 abbrev pub negativeOf : Constants → ℤ → ℤ
 negativeOf c d = negℤ (incrementOf (c .low) (c .high) (negℤ (pos (c .shift))) d)
 

@@ -1,4 +1,5 @@
-// From a reading's distance from the mean to the standardized difference. Document 01, "Standardizing value and difference".
+// From a reading's distance from the mean to the standardized difference, and what that shares with a residue's. Document 01,
+// "Standardizing value and difference".
 use crate::difference::Difference;
 ghost use mathlib.Core.Path.{_≡_};
 ghost use mathlib.Core.Bool.{cond};

@@ -1,4 +1,4 @@
-// One reading on its own: its standardizing value, its difference from the mean, and what it contributes to the charts.
+// One reading, or one result of residues, on its own: its standardizing value, its difference, and what it contributes to the charts. The categories.
 pub mod category;
 mod coefficient;
 pub mod constants;

@@ -1,4 +1,4 @@
 -- The table of examples.
 pub mod Table
 pub mod Witness
-pub mod Another
+pub mod Residue

@@ -20,14 +20,16 @@ use Rattle.food_line.specs.Amount.{amountOf}
 use Rattle.percent.specs.Percent.{accepted, hundredthsOf}
 use Rattle.food_line.specs.Read.{fieldsAt, readBy, readOf}
 use Rattle.rows.specs.Rows.{firstRow}
-use Rattle.food_line.specs.Write.{writtenBy, bufferBy, writtenOf, bufferAfter}
+use Rattle.food_line.specs.Write.{writtenOf, bufferAfter}
+use Rattle.format.specs.Write.{writtenBy, bufferBy}
 use Rattle.field.specs.declared.Tagged.{Tagged}
 use Rattle.food_line.specs.declared.record.Record.{Record}
 use Rattle.food_line.specs.declared.record.Read.the-variants.{Whole}
-use Rattle.food_line.specs.declared.record.Written.the-variants.{Done, Refused as Unwritten}
+use Rattle.format.specs.declared.Written.the-variants.{Done, Refused as Unwritten}
 use Rattle.unit.specs.Charts.{chartsIn, limit}
 use Rattle.unit.specs.Claim.{history, since, openedIn, entriesOf, shownAt, ClaimOf}
-use Rattle.unit.specs.Food.{foodChemistry}
+use Rattle.difference.specs.declared.category.Category.the-variants.{Food}
+use Rattle.seen.specs.Rules.{foodChemistry}
 use Rattle.difference.specs.Contribution.{food, incrementOf, variableOf, measureOf}
 use Rattle.difference.specs.Difference.{fat, salt, coefficientFor}
 use Rattle.difference.specs.Largest.{rootFrom}
@@ -105,17 +107,17 @@ calm = studySet ++ samples (1 ∷ 2 ∷ 3 ∷ 4 ∷ 5 ∷ 6 ∷ 7 ∷ 8 ∷ 9 �
 -- ---- what is read off a list
 
 abbrev pub entries : List (List ℕ) → List Entry
-entries ls = entriesOf foodChemistry (since (history ls))
+entries ls = entriesOf foodChemistry (since (history Food ls))
 
 abbrev pub opened : List (List ℕ) → Bool
-opened ls = openedIn (since (history ls))
+opened ls = openedIn (since (history Food ls))
 
 -- the status line: stage, samples in the stretch, mask and misses
 pub record Status (ls : List (List ℕ)) (stage samples mask : ℕ) (misses : Bool) : Type 0 where
-  pub stage-is : statusOf (replay ls) .stage ≡ stage
-  pub samples-are : statusOf (replay ls) .samples ≡ samples
-  pub mask-is : statusOf (replay ls) .mask ≡ mask
-  pub misses-are : statusOf (replay ls) .misses ≡ misses
+  pub stage-is : statusOf (replay Food ls) .stage ≡ stage
+  pub samples-are : statusOf (replay Food ls) .samples ≡ samples
+  pub mask-is : statusOf (replay Food ls) .mask ≡ mask
+  pub misses-are : statusOf (replay Food ls) .misses ≡ misses
 
 -- the record of document 01's own line
 abbrev pub recorded : Record
@@ -138,7 +140,7 @@ pub record Witness : Type 0 where
   -- Probation is opened, chart 0 (P of moisture) alone is named, and run 3 to 8 is shown with its sum.
   pub run-opened : opened byRun ≡ true
   pub run-status : Status byRun 3 8 1 false
-  pub run-shown : shownAt (statusOf (replay byRun)) 0 ≡ record { over = true; first = 3; last = 8; value = pos 60 }
+  pub run-shown : shownAt (statusOf (replay Food byRun)) 0 ≡ record { over = true; first = 3; last = 8; value = pos 60 }
   -- the samples' contributions to that chart
   pub run-samples : onChart 0 (stretch 2013 (entries byRun)) ≡ negℤ (pos 20) ∷ replicate 7 (pos 10)
   -- so, by the claim, there is a run over the limit, and the one shown is right
@@ -157,8 +159,8 @@ pub record Witness : Type 0 where
   -- so, by the claim, there are no two such misses and no such run on any chart
   pub calm-holds : ¬ (TwoMisses (entries calm) ⊎ ((c : ℕ) × (c < chartsIn food) × SomeRun (limit food) (entries calm) c))
 
-claim-of : (ls : List (List ℕ)) → ClaimOf ls (statusOf (replay ls))
-claim-of ls = claim-holds ls (replay ls) refl
+claim-of : (ls : List (List ℕ)) → ClaimOf Food ls (statusOf (replay Food ls))
+claim-of ls = claim-holds Food ls (replay Food ls) refl
 
 pub witness : Witness
 unfolding isDigit digitValue digitOf areDigits bytesOf digitsOf readingOf taggedOf toBits writtenBy bufferBy writtenOf bufferAfter accepted hundredthsOf amountOf readBy readOf firstRow kindRow dateRow productRow meanRow readingRow nextValue nextFirst incrementOf variableOf measureOf fat salt coefficientFor rootFrom statusBy passesOf takenIn ofBits

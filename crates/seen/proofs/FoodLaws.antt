@@ -1,8 +1,9 @@
 -- What a record of food chemistry that was read is to the unit. Assumes nothing.
-use Prim.Native.Nat.{ℕ, _≤_, _<_}
+use Prim.Native.Nat.{ℕ, zero, suc, _≤_, _<_}
 use mathlib.Core.Path.{_≡_, refl, sym, ap, subst, _∙_}
 use mathlib.Core.Bool.{Bool, false, _||_, or-false}
 use mathlib.Core.List.{List}
+use native.Mathlib.Omega.{arith}
 use borrow.Author.Tests.{eqb-true, not-false}
 use lib.Dec.{eqb, lit≤, lit<}
 use Rattle.difference.specs.Standardize.{badMean}
@@ -13,19 +14,21 @@ use Rattle.difference.proofs.MeanLaws.{mean-rows, good-mean}
 use Rattle.laws.proofs.Bools.{or-neither}
 use Rattle.food_line.specs.Fields.{recordOf}
 use Rattle.food_line.specs.Amount.{amountOf}
-use Rattle.food_line.specs.Read.{fieldsAt, readOf}
+use Rattle.food_line.specs.Read.{fieldsAt, lineRows, readBy, readOf, refusalOf}
 use Rattle.field.specs.Refused.{MOST, MAINTENANCE, STUDY, kindRow, meanRow, productRow, classOf}
 use Rattle.food_line.specs.declared.fields.Fields.{Fields}
 use Rattle.food_line.specs.declared.record.Record.{Record}
 use Rattle.field.specs.declared.Means.{Means}
 use Rattle.food_line.specs.declared.record.Amount.{Amount}
 use Rattle.food_line.specs.declared.record.Amount.the-variants.{Hundredths, Unknown}
-use Rattle.food_line.specs.declared.record.Read.the-variants.{Whole}
+use Rattle.food_line.specs.declared.record.Read.the-variants.{Whole, Refused as Unread}
 use Rattle.food_line.specs.declared.record.Reading.{Reading}
 use Rattle.food_line.proofs.AmountLaws.{amount-small}
 use Rattle.food_line.proofs.Inverse.{good, read-is}
 use Rattle.food_line.proofs.RowLaws.{Clean, clean}
-use Rattle.seen.specs.Food.{countOf, differenceFor, differenceIn, answerFor, byAnalyte, seenWith, seenOf, seenOfAny, KindIs}
+use Rattle.rows.specs.Rows.{firstRow}
+use Rattle.seen.specs.Rules.{foodChemistry}
+use Rattle.seen.specs.Food.{hundredthsIn, differenceFor, differenceIn, answerFor, byAnalyte, seenWith, seenOf, seenOfAny, KindIs}
 
 -- no row fits the fields of a record that was read
 read-clean : (line : List ℕ) (r : Record) → readOf line ≡ Whole r → (r ≡ recordOf (fieldsAt line)) × Clean (fieldsAt line)
@@ -55,17 +58,17 @@ means product m e =
       salt = good-mean class 3 (m .salt) (a .1);
     }
 
-count-small : (x : Reading) → countOf (amountOf x) ≤ MOST
-count-small x = go (amountOf x) refl
+hundredths-small : (x : Reading) → hundredthsIn (amountOf x) ≤ MOST
+hundredths-small x = go (amountOf x) refl
   where
-    go : (a : Amount) → amountOf x ≡ a → countOf a ≤ MOST
+    go : (a : Amount) → amountOf x ≡ a → hundredthsIn a ≤ MOST
     go (Hundredths n) e = amount-small x n e
     go Unknown e = lit≤ tt
 
 -- one that a valid line can have is not refused
 found : (product analyte mean : ℕ) (x : Reading) → productRow product ≡ false → analyte < 4 → GoodMean (classOf product) analyte mean
     → answerFor product analyte mean x ≡ differenceFor product analyte mean x
-found product analyte mean x p a g = ap differenceIn (given product analyte mean (countOf (amountOf x)) p a g (count-small x))
+found product analyte mean x p a g = ap differenceIn (given product analyte mean (hundredthsIn (amountOf x)) p a g (hundredths-small x))
 
 all-found : (f : Fields) → Clean f → byAnalyte answerFor (recordOf f) ≡ byAnalyte differenceFor (recordOf f)
 all-found f c =
@@ -96,3 +99,16 @@ pub kind-is : KindIs
 kind-is line r e =
     let p = read-clean line r e in
     (other-kind (r .kind) (subst (λ (x : Record). kindRow (x .kind) ≡ false) (sym (p .0)) (p .1 .kind)), maintenance-alone (r .kind))
+
+-- ---- what reading says of the rows
+
+pub refused-is : (line : List ℕ) (n : ℕ) → readOf line ≡ Unread n → (firstRow (lineRows line) ≡ n) × (n ≡ 0 → ⊥)
+unfolding readBy readOf
+refused-is line n e = go (firstRow (lineRows line)) refl e
+  where
+    go : (k : ℕ) → firstRow (lineRows line) ≡ k → readBy k (recordOf (fieldsAt line)) ≡ Unread n → (firstRow (lineRows line) ≡ n) × (n ≡ 0 → ⊥)
+    go zero q e = absurd (let z : _≡_ {A = ℕ} 0 1 = cc in omega arith)
+    go (suc k) q e = let same : suc k ≡ n = ap refusalOf e in (q ∙ same, λ z. omega (arith, same, z))
+
+pub seen-is : (line : List ℕ) (r : Record) → readOf line ≡ Whole r → (firstRow (lineRows line) ≡ 0) × (seenOf r ≡ foodChemistry .seen line)
+seen-is line r e = let p = read-is line r e in (p .0, ap seenOf (p .1))

@@ -1,5 +1,5 @@
 -- The claim holds of every list: what a unit keeps is kept over the whole list, and the status shows it. Assumes nothing.
-use Prim.Native.Nat.{ℕ, _<_}
+use Prim.Native.Nat.{ℕ, _≤_, _<_}
 use mathlib.Core.Path.{_≡_, refl, sym, ap, _∙_, subst}
 use mathlib.Core.Bool.{Bool, true, false, cond, _||_, or-true, or-false, or-assoc}
 use mathlib.Core.Logic.{_⊎_, inl, inr, ⊎-elim}
@@ -11,26 +11,27 @@ use Rattle.grounds.proofs.Claim.{Shows, claim}
 use Rattle.laws.proofs.Bools.{or-either}
 use Rattle.laws.proofs.EachLaws.{any-some}
 use Rattle.laws.proofs.Gathered.{with-one-more}
-use Rattle.unit.specs.Category.{Category}
+use Rattle.difference.specs.declared.category.Category.{Category}
+use Rattle.seen.specs.Rules.{Rules, rulesOf}
 use Rattle.unit.specs.Charts.{chartsIn, limit, isOver}
-use Rattle.unit.specs.Claim.{Step, historyIn, isAdmission, sinceFrom, since, entriesOf, shown, ClaimIn, ClaimOf}
-use Rattle.unit.specs.Food.{foodChemistry}
-use Rattle.unit.specs.Reached.{afterIn, replay}
+use Rattle.unit.specs.Claim.{Step, history, isAdmission, sinceFrom, since, entriesOf, shown, ClaimIn, ClaimOf}
+use Rattle.unit.specs.Reached.{replay}
 use Rattle.unit.specs.Since.{admits, EndsAdmitted, Since, SinceIs, YearsNeverFall}
 use Rattle.unit.specs.Status.{reportsOf, statusBy, statusOf}
 use Rattle.unit.specs.Stretch.{noSamples, anyOver, chartAt}
-use Rattle.unit.specs.Take.{noMisses, newUnit, takenIn}
+use Rattle.unit.specs.Take.{noMisses, newOf, takenIn}
 use Rattle.unit.specs.declared.Unit as U
 use Rattle.reply.specs.declared.report.ChartReport.{ChartReport}
-use Rattle.unit.proofs.GoodLaws.{food-sound}
+use Rattle.unit.proofs.GoodLaws.{rules-sound}
 use Rattle.unit.proofs.Kept.{Kept, fresh, step-kept, next}
 use Rattle.unit.proofs.Sound.{Sound}
 use Rattle.unit.proofs.MaskLaws.{bit-of}
-use Rattle.unit.proofs.View.{view, low, reports-room, shown-at}
+use Rattle.unit.proofs.View.{view, low, shown-at, shown-past}
+use Rattle.unit.proofs.Within.{afterIn, historyIn, after-in, history-in, category-after}
 
 -- ---- what the status shows
 
-module _ (g : Category) (sound : Sound g) (u : U.Unit) (h : List Step) (K : Kept g u h) where
+module _ (g : Rules) (sound : Sound g) (u : U.Unit) (h : List Step) (K : Kept g u h) where
   abbrev c : Constants
   c = g .constants
 
@@ -40,8 +41,12 @@ module _ (g : Category) (sound : Sound g) (u : U.Unit) (h : List Step) (K : Kept
   over-is : (n : ℕ) → n < chartsIn c → shown h (statusBy c u) .over n ≡ overAt n
   unfolding statusBy
   over-is n k =
-      bit-of (reportsOf c (u .stretch)) n (omega (arith, reports-room c (sound .few) (u .stretch), sound .few))
+      bit-of (reportsOf c (u .stretch)) n
       ∙ ap (λ (r : ChartReport). r .over) (shown-at c (sound .few) (u .stretch) n k)
+
+  others : (n : ℕ) → chartsIn c ≤ n → shown h (statusBy c u) .over n ≡ false
+  unfolding statusBy
+  others n k = bit-of (reportsOf c (u .stretch)) n ∙ ap (λ (r : ChartReport). r .over) (shown-past c (u .stretch) n k)
 
   shows : Shows (chartsIn c) (limit c) (view (u .stretch)) (u .misses .opened) (shown h (statusBy c u))
   unfolding statusBy
@@ -53,6 +58,7 @@ module _ (g : Category) (sound : Sound g) (u : U.Unit) (h : List Step) (K : Kept
     );
     misses = refl;
     over-is = over-is;
+    others = others;
     first = λ n k _. ap (λ (r : ChartReport). r .first) (shown-at c (sound .few) (u .stretch) n k);
     last = λ n k _. ap (λ (r : ChartReport). r .last) (shown-at c (sound .few) (u .stretch) n k);
     value = λ n k _. ap (λ (r : ChartReport). r .value) (shown-at c (sound .few) (u .stretch) n k);
@@ -66,7 +72,7 @@ module _ (g : Category) (sound : Sound g) (u : U.Unit) (h : List Step) (K : Kept
 
 -- ---- over the whole list
 
-module _ (g : Category) (sound : Sound g) where
+module _ (g : Rules) (sound : Sound g) where
   kept-after : (u : U.Unit) (h : List Step) (ls : List (List ℕ)) → Kept g u h → Kept g (afterIn g u ls) (sinceFrom h (historyIn g u ls))
   kept-after u h [] K = K
   kept-after u h (l ∷ ls) K = kept-after (takenIn g u l .unit) (next h l (takenIn g u l .event)) ls (step-kept g sound u h l K)
@@ -75,16 +81,20 @@ module _ (g : Category) (sound : Sound g) where
   kept-list : (u : U.Unit) → u .stretch ≡ noSamples → u .misses ≡ noMisses → (ls : List (List ℕ)) → Kept g (afterIn g u ls) (since (historyIn g u ls))
   kept-list u s m ls = kept-after u [] ls (fresh g u s m)
 
-  -- the claim of every list given to such a unit, for any category
-  pub claim-list : (u : U.Unit) → u .stretch ≡ noSamples → u .misses ≡ noMisses → (ls : List (List ℕ))
-      → ClaimIn g (since (historyIn g u ls)) (statusBy (g .constants) (afterIn g u ls))
-  claim-list u s m ls = claim-in g sound (afterIn g u ls) (since (historyIn g u ls)) (kept-list u s m ls)
+-- what a new unit of a category keeps of a list
+kept-new : (k : Category) (ls : List (List ℕ)) → Kept (rulesOf k) (replay k ls) (since (history k ls))
+kept-new k ls =
+    let u = newOf k in
+    rw (after-in u ls, history-in u ls) (kept-list (rulesOf k) (rules-sound k) u refl refl ls)
 
-pub claim-holds : (ls : List (List ℕ)) (u : U.Unit) → replay ls ≡ u → ClaimOf ls (statusOf u)
-claim-holds ls u e = subst (λ (v : U.Unit). ClaimOf ls (statusOf v)) e (claim-list foodChemistry food-sound newUnit refl refl ls)
+pub claim-holds : (k : Category) (ls : List (List ℕ)) (u : U.Unit) → replay k ls ≡ u → ClaimOf k ls (statusOf u)
+claim-holds k ls u e =
+    let own : u .category ≡ k = ap (λ (v : U.Unit). v .category) (sym e) ∙ category-after (newOf k) ls in
+    subst (λ (j : Category). ClaimIn (rulesOf k) (since (history k ls)) (statusBy (rulesOf j .constants) u)) (sym own)
+    (claim-in (rulesOf k) (rules-sound k) u (since (history k ls)) (subst (λ (v : U.Unit). Kept (rulesOf k) v (since (history k ls))) e (kept-new k ls)))
 
 pub years-never-fall : YearsNeverFall
-years-never-fall ls = kept-list foodChemistry food-sound newUnit refl refl ls .ordered .order
+years-never-fall k ls = kept-new k ls .ordered .order
 
 -- ---- what `since` is
 

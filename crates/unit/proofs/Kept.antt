@@ -24,7 +24,7 @@ use Rattle.laws.proofs.EachLaws.{each-length, any-none, none-any}
 use Rattle.laws.proofs.Gathered.{with-one-more}
 use Rattle.laws.proofs.Order.{zarith}
 use Rattle.rows.specs.Rows.{firstRow}
-use Rattle.unit.specs.Category.{Category}
+use Rattle.seen.specs.Rules.{Rules}
 use Rattle.difference.specs.Contribution.{CHARTS}
 use Rattle.unit.specs.Charts.{chartsIn, contributionTo, isOver, limit}
 use Rattle.unit.specs.Claim.{Step, isAdmission, isAccepted, opens, openedIn, entryBy, entryOf, entryIn, entriesOf}
@@ -48,7 +48,7 @@ use Rattle.unit.proofs.View.{view, empty-at, moves, low}
 abbrev pub ground : Constants → U.Unit → Bool
 ground c u = u .misses .opened || anyOver c (u .stretch .charts)
 
-pub record Kept (g : Category) (u : U.Unit) (h : List Step) : Type 0 where
+pub record Kept (g : Rules) (u : U.Unit) (h : List Step) : Type 0 where
   pub charted : G.Charted (chartsIn (g .constants)) (limit (g .constants)) (entriesOf g h) (view (u .stretch))
   pub room : length (u .stretch .charts) ≡ CHARTS
   pub missed-kept : Missed (misses (entriesOf g h)) (u .misses .last) (u .misses .opened)
@@ -86,7 +86,7 @@ sample-next false u m t = refl
 abbrev pub next : List Step → List ℕ → Event → List Step
 next h line e = cond (isAdmission e) [] (h ++ record { line = line; event = e } ∷ [])
 
-module _ (g : Category) where
+module _ (g : Rules) where
   abbrev c : Constants
   c = g .constants
 
@@ -151,7 +151,7 @@ not-before u x o = ltb-false (x .month) (u .month) (o .backdated)
 
 -- ---- what a line that no row refuses does: x is what it is to the unit
 
-module _ (g : Category) (sound : Sound g) (u : U.Unit) (h : List Step) (line : List ℕ) (good : GoodSeen (g .seen line)) (o : Open u (g .seen line)) (K : Kept g u h) where
+module _ (g : Rules) (sound : Sound g) (u : U.Unit) (h : List Step) (line : List ℕ) (good : GoodSeen (g .seen line)) (o : Open u (g .seen line)) (K : Kept g u h) where
   abbrev x : Seen
   x = g .seen line
 
@@ -286,7 +286,7 @@ module _ (g : Category) (sound : Sound g) (u : U.Unit) (h : List Step) (line : L
 
 -- ---- every line
 
-pub step-kept : (g : Category) → Sound g → (u : U.Unit) (h : List Step) (line : List ℕ) → Kept g u h → Kept g (takenIn g u line .unit) (next h line (takenIn g u line .event))
+pub step-kept : (g : Rules) → Sound g → (u : U.Unit) (h : List Step) (line : List ℕ) → Kept g u h → Kept g (takenIn g u line .unit) (next h line (takenIn g u line .event))
 unfolding takenIn
 step-kept g sound u h line K = go (firstRow (rowsIn g u line)) refl
   where

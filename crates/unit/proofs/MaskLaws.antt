@@ -29,10 +29,15 @@ bit-first false m =
     let e : (0 + 2 * m) / 2 ^ 0 % 2 ≡ 0 = omega arith in
     rw e
 
-pub bit-of : (rows : List ChartReport) (c : ℕ) → c < length rows → bitAt c (maskOf rows) ≡ getD rows c noReport .over
-bit-of [] c h = absurd (omega arith)
-bit-of (r ∷ rows) zero h = bit-first (r .over) (maskOf rows)
-bit-of (r ∷ rows) (suc c) h = ap (λ (n : ℕ). eqb (n % 2) 1) (bit-step (bitOf (r .over)) (maskOf rows) c (bit-lt (r .over))) ∙ bit-of rows c (omega arith)
+-- of an empty mask no bit is set
+no-bit : (c : ℕ) → bitAt c 0 ≡ false
+no-bit zero = refl
+no-bit (suc c) = ap (λ (n : ℕ). eqb (n % 2) 1) (bit-step 0 0 c (lit< tt)) ∙ no-bit c
+
+pub bit-of : (rows : List ChartReport) (c : ℕ) → bitAt c (maskOf rows) ≡ getD rows c noReport .over
+bit-of [] c = no-bit c
+bit-of (r ∷ rows) zero = bit-first (r .over) (maskOf rows)
+bit-of (r ∷ rows) (suc c) = ap (λ (n : ℕ). eqb (n % 2) 1) (bit-step (bitOf (r .over)) (maskOf rows) c (bit-lt (r .over))) ∙ bit-of rows c
 
 -- ---- from the last chart on
 

@@ -7,7 +7,7 @@ use lib.IntN.{pos}
 use lib.ListN.{length, getD, length-replicate}
 use lib.Signed.{_≤ℤ_}
 use Rattle.grounds.proofs.Charted as G
-use Rattle.laws.proofs.EachLaws.{each-length, each-at}
+use Rattle.laws.proofs.EachLaws.{each-at, each-past}
 use Rattle.laws.proofs.Lists.{same-at}
 use Rattle.difference.specs.Contribution.{ANALYTES, EACH, CHARTS}
 use Rattle.unit.specs.Charts.{chartsIn, noChart, contributionTo, movedBy, limit}
@@ -48,8 +48,9 @@ module _ (c : Constants) (few : c .analytes ≤ ANALYTES) (s : Stretch) where
       at n h = each-at (chartsIn c) (movedBy c (earlier s year) ds) (s .charts) noChart n h (omega (arith, within n h))
 
   -- what the status shows of a chart is the chart's
-  pub reports-room : length (reportsOf c s) ≡ CHARTS
-  reports-room = each-length (chartsIn c) _ _ ∙ length-replicate CHARTS noReport
-
   pub shown-at : (n : ℕ) → n < chartsIn c → getD (reportsOf c s) n noReport ≡ reportAt c s n
   shown-at n h = each-at (chartsIn c) (λ n _. reportAt c s n) _ noReport n h (omega (arith, within n h, length-replicate CHARTS noReport))
+
+-- and of one that the category does not have nothing
+pub shown-past : (c : Constants) (s : Stretch) (n : ℕ) → chartsIn c ≤ n → getD (reportsOf c s) n noReport ≡ noReport
+shown-past c s n h = each-past (chartsIn c) (λ n _. reportAt c s n) _ noReport n h ∙ same-at CHARTS n noReport

@@ -10,6 +10,7 @@ use Rattle.difference.specs.Contribution.{EACH, contributionsOf, limitOf}
 use Rattle.unit.specs.declared.chart.Chart.{Chart}
 use Rattle.difference.specs.declared.constants.Constants.{Constants}
 use Rattle.difference.specs.declared.contribution.Contributions.{Contributions}
+use Rattle.difference.specs.Difference.{noDifference}
 use Rattle.difference.specs.declared.difference.Difference.{Difference}
 
 -- how many charts a category has
@@ -23,9 +24,6 @@ noChart = record { value = pos 0; first = 0 }
 -- a chart after a sample that contributes x, where `before` samples of the stretch stand before it
 abbrev pub chartOf : Chart → ℕ → ℤ → Chart
 chartOf chart before x = record { value = nextValue before (chart .value) x; first = nextFirst before (chart .value) (chart .first) }
-
-abbrev pub noDifference : Difference
-noDifference = record { tenths = pos 0 }
 
 -- the difference of an analyte
 abbrev pub differenceAt : List Difference → ℕ → ℤ

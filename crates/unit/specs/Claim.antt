@@ -1,5 +1,5 @@
--- Demand 3 of document 01, as one claim about the whole list of lines given to a new unit: the lines given, the events returned and the status after
--- them, and nothing of the unit's fields.
+-- Demand 3 of document 01, and of document 02 for residues, as one claim about the whole list of lines given to a new unit of a category: the lines
+-- given, the events returned and the status after them, and nothing of the unit's fields.
 use Prim.Native.Nat.{ℕ}
 use mathlib.Core.Bool.{Bool, true, false, cond, not, _||_}
 use mathlib.Core.List.{List, [], _∷_, _++_}
@@ -7,12 +7,12 @@ use lib.Dec.{eqb}
 use lib.ListN.{getD}
 use Rattle.grounds.specs.Claim.{Grounds, Claim}
 use Rattle.grounds.specs.Entry.{Entry, missed as aMiss, sample}
-use Rattle.unit.specs.Category.{Category}
+use Rattle.difference.specs.declared.category.Category.{Category}
+use Rattle.seen.specs.Rules.{Rules, rulesOf}
 use Rattle.unit.specs.Charts.{chartsIn, contributionTo, limit}
 use Rattle.reply.specs.Event.{eventByte}
-use Rattle.unit.specs.Food.{foodChemistry}
 use Rattle.reply.specs.Report.{bitAt, noReport}
-use Rattle.unit.specs.Take.{newUnit, takenIn}
+use Rattle.unit.specs.Take.{newOf, takenOf}
 use Rattle.unit.specs.declared.Unit as U
 use Rattle.difference.specs.declared.constants.Constants.{Constants}
 use Rattle.reply.specs.declared.event.Event.{Event}
@@ -25,14 +25,14 @@ pub record Step : Type 0 where
   pub line : List ℕ
   pub event : Event
 
--- the lines given to a unit of a category, each with its event, in order
-abbrev pub historyIn : Category → U.Unit → List (List ℕ) → List Step
-historyIn g u [] = []
-historyIn g u (l ∷ ls) = record { line = l; event = takenIn g u l .event } ∷ historyIn g (takenIn g u l .unit) ls
+-- the lines given to a unit, each with its event, in order
+abbrev pub historyFrom : U.Unit → List (List ℕ) → List Step
+historyFrom u [] = []
+historyFrom u (l ∷ ls) = record { line = l; event = takenOf u l .event } ∷ historyFrom (takenOf u l .unit) ls
 
--- those given to a new unit
-abbrev pub history : List (List ℕ) → List Step
-history ls = historyIn foodChemistry newUnit ls
+-- those given to a new unit of a category
+abbrev pub history : Category → List (List ℕ) → List Step
+history k ls = historyFrom (newOf k) ls
 
 -- admission is event 04
 abbrev pub isAdmission : Event → Bool
@@ -67,11 +67,11 @@ entryBy false c x = sample (x .year) (contributionTo c (x .differences))
 abbrev pub entryOf : Constants → Seen → List Entry
 entryOf c x = cond (x .study) [] (entryBy (x .missed) c x ∷ [])
 
-abbrev pub entryIn : Category → Step → List Entry
+abbrev pub entryIn : Rules → Step → List Entry
 entryIn g x = cond (isAccepted (x .event)) (entryOf (g .constants) (g .seen (x .line))) []
 
--- the accepted maintenance lines, for food chemistry those of kind 01
-abbrev pub entriesOf : Category → List Step → List Entry
+-- the accepted maintenance lines: of food chemistry those of kind 01, of residues those of kind 03
+abbrev pub entriesOf : Rules → List Step → List Entry
 entriesOf g [] = []
 entriesOf g (x ∷ h) = entryIn g x ++ entriesOf g h
 
@@ -91,9 +91,9 @@ shown h report =
     }
 
 -- The claim about the steps since admission: the category's charts, each with its limit, the entries, and what is named and shown.
-abbrev pub ClaimIn : Category → List Step → Report → Type 0
+abbrev pub ClaimIn : Rules → List Step → Report → Type 0
 ClaimIn g h report = Claim (chartsIn (g .constants)) (limit (g .constants)) (entriesOf g h) (shown h report)
 
 -- Nobody with the whole list can find a ground for probation that the unit missed, or overturn one that it named.
-abbrev pub ClaimOf : List (List ℕ) → Report → Type 0
-ClaimOf ls report = ClaimIn foodChemistry (since (history ls)) report
+abbrev pub ClaimOf : Category → List (List ℕ) → Report → Type 0
+ClaimOf k ls report = ClaimIn (rulesOf k) (since (history k ls)) report

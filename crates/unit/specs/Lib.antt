@@ -1,6 +1,4 @@
--- Document 01, section by section. `bounds` is no part of its rules.
-pub mod Category
-pub mod Food
+-- Document 01, section by section, with request One of document 02. `bounds` is no part of its rules.
 pub mod Charts
 pub mod Stretch
 pub mod Set
@@ -8,6 +6,8 @@ pub mod Take
 pub mod Status
 pub mod Reached
 pub mod Claim
+pub mod Accepted
 pub mod Since
+pub mod ResidueUnit
 pub mod Months
 pub mod bounds

@@ -2,29 +2,12 @@
 use Prim.Native.Nat.{ℕ}
 use mathlib.Core.Path.{_≡_}
 use mathlib.Core.Bool.{Bool, true, false, _||_}
-use mathlib.Core.Logic.{_⊎_, _↔_}
+use mathlib.Core.Logic.{_⊎_}
 use mathlib.Core.List.{List, [], _∷_, _++_}
 use Rattle.grounds.specs.Entry.{years, NeverFall}
-use Rattle.food_line.specs.Read.{readOf}
-use Rattle.field.specs.Refused.{MAINTENANCE}
-use Rattle.food_line.specs.declared.record.Record.{Record}
-use Rattle.food_line.specs.declared.record.Read.the-variants.{Whole}
-use Rattle.unit.specs.Claim.{Step, history, isAdmission, isAccepted, since, entriesOf}
-use Rattle.seen.specs.Food.{seenOf}
-use Rattle.unit.specs.Food.{foodChemistry}
-use Rattle.unit.specs.Take.{takenOf}
-use Rattle.unit.specs.declared.Unit as U
-
--- what an accepted line is: it reads, what it is to the unit is what its record is, and it is no study line exactly where its kind is 01
-pub record Accepted (line : List ℕ) : Type 0 where
-  pub of : Record
-  pub reads : readOf line ≡ Whole of
-  pub seen : foodChemistry .seen line ≡ seenOf of
-  pub kind : (foodChemistry .seen line .study ≡ false) ↔ (of .kind ≡ MAINTENANCE)
-
--- So the entries are the accepted lines of kind 01. Proved as `accepted-is` of proofs/GoodLaws.
-abbrev pub AcceptedIs : Type 0
-AcceptedIs = (u : U.Unit) (line : List ℕ) → isAccepted (takenOf u line .event) ≡ true → Accepted line
+use Rattle.difference.specs.declared.category.Category.{Category}
+use Rattle.seen.specs.Rules.{rulesOf}
+use Rattle.unit.specs.Claim.{Step, history, isAdmission, since, entriesOf}
 
 abbrev pub admits : List Step → Bool
 admits [] = false
@@ -51,4 +34,4 @@ SinceIs h = Since h (since h)
 -- The years of the samples since admission never fall, so a stretch, which document 01 opens where the year differs from the last sample's, is the
 -- samples of one calendar year. Proved as `years-never-fall` of proofs/Claimed.
 abbrev pub YearsNeverFall : Type 0
-YearsNeverFall = (ls : List (List ℕ)) → NeverFall (years (entriesOf foodChemistry (since (history ls))))
+YearsNeverFall = (k : Category) (ls : List (List ℕ)) → NeverFall (years (entriesOf (rulesOf k) (since (history k ls))))

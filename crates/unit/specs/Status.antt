@@ -6,8 +6,8 @@ use mathlib.Core.List.{List, [], _∷_}
 use lib.ListN.{replicate}
 use Rattle.laws.specs.Each.{eachBelow}
 use Rattle.difference.specs.Contribution.{CHARTS}
+use Rattle.seen.specs.Rules.{rulesOf}
 use Rattle.unit.specs.Charts.{chartsIn, isOver}
-use Rattle.unit.specs.Food.{foodChemistry}
 use Rattle.unit.specs.Stretch.{chartAt}
 use Rattle.unit.specs.declared.Unit as U
 use Rattle.unit.specs.declared.chart.Chart.{Chart}
@@ -49,4 +49,4 @@ statusBy c u =
     }
 
 abbrev pub statusOf : U.Unit → Report
-statusOf u = statusBy (foodChemistry .constants) u
+statusOf u = statusBy (rulesOf (u .category) .constants) u

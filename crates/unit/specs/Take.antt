@@ -1,16 +1,21 @@
--- Document 01, "Stages" and rows 8 to 12 of "Refused": what a line does to a unit. The definition of `take`.
+-- Document 01, "Stages" and rows 8 to 12 of "Refused", and document 02, request One: a new unit, and what a line does to a unit. The definitions of
+-- `new_unit`, `new_residue_unit` and `take`.
 use Prim.Native.Nat.{ℕ, zero, suc}
 use mathlib.Core.Bool.{Bool, true, false, cond, not, _&&_, _||_}
 use mathlib.Core.List.{List, [], _∷_, _++_}
 use lib.Dec.{leb, ltb, eqb}
 use Rattle.grounds.specs.Earlier.{again}
 use Rattle.rows.specs.Rows.{Row, firstRow}
-use Rattle.unit.specs.Category.{Category}
-use Rattle.unit.specs.Food.{foodChemistry}
+use Rattle.difference.specs.declared.category.Category.{Category}
+use Rattle.difference.specs.declared.category.Category.the-variants.{Food, Residue}
+use Rattle.field.specs.Residue.{noCompound}
+use Rattle.rows.specs.Refusal.{COMPOUND}
+use Rattle.seen.specs.Rules.{Rules, rulesOf}
 use Rattle.unit.specs.Set.{emptySet, enteredOf, passesSet}
 use Rattle.study.specs.Study.{SET}
 use Rattle.unit.specs.Stretch.{FULL, noSamples, sampledOf, anyOver}
 use Rattle.unit.specs.declared.Unit as U
+use Rattle.unit.specs.declared.Made.{Made}
 use Rattle.unit.specs.declared.Taken.{Taken}
 use Rattle.unit.specs.declared.Misses.{Misses}
 use Rattle.difference.specs.declared.constants.Constants.{Constants}
@@ -40,13 +45,37 @@ CLOSED = 4
 abbrev pub noMisses : Misses
 noMisses = record { last = 0; opened = false }
 
--- a new unit is at stage 0; a last month of 0, before every line's, stands for no accepted line
-abbrev pub newUnit : U.Unit
-newUnit = record { stage = APPLICANT; month = 0; set = emptySet; stretch = noSamples; misses = noMisses }
+-- a unit that has taken no line; a last month of 0, before every line's, stands for no accepted line
+abbrev pub emptyUnit : Category → ℕ → U.Unit
+emptyUnit k stage = record { category = k; stage = stage; month = 0; set = emptySet; stretch = noSamples; misses = noMisses }
 
--- closed: stage 4
+-- a new unit is at stage 0; one of residues starts accredited, which is its admission
+abbrev pub firstStage : Category → ℕ
+firstStage Food = APPLICANT
+firstStage (Residue compound) = ACCREDITED
+
+abbrev pub newOf : Category → U.Unit
+newOf k = emptyUnit k (firstStage k)
+
+abbrev pub newUnit : U.Unit
+newUnit = newOf Food
+
+-- A compound above 19 is refused with 14, and none is made: what stands beside the refusal is closed, and no list leads to it (clause `none` of
+-- `new_residue_unit`).
+abbrev pub madeBy : Bool → ℕ → Made
+madeBy true compound = record { refusal = COMPOUND; unit = emptyUnit (Residue compound) CLOSED }
+madeBy false compound = record { refusal = 0; unit = newOf (Residue compound) }
+
+abbrev pub madeOf : ℕ → Made
+madeOf compound = madeBy (noCompound compound) compound
+
+-- closed: stage 4; of residues every stage but 2, for they have no sets and so no way back
+abbrev pub closedIn : Category → ℕ → Bool
+closedIn Food stage = eqb stage CLOSED
+closedIn (Residue compound) stage = not (eqb stage ACCREDITED)
+
 abbrev pub closedRow : U.Unit → Bool
-closedRow u = eqb (u .stage) CLOSED
+closedRow u = closedIn (u .category) (u .stage)
 
 -- stage: maintenance outside 2, study in 2
 abbrev pub stageRow : U.Unit → Seen → Bool
@@ -94,23 +123,23 @@ unitRows u x =
 abbrev pub refusedOf : U.Unit → ℕ → Taken
 refusedOf u n = record { event = Refused n; unit = u }
 
--- what an accepted line leaves: the event, and the unit's stage, last accepted month, set, stretch and misses after it
-abbrev pub takenAs : Event → ℕ → ℕ → Set → Stretch → Misses → Taken
-takenAs event stage month set stretch misses =
-    record { event = event; unit = record { stage = stage; month = month; set = set; stretch = stretch; misses = misses } }
+-- what an accepted line leaves: the event, and the unit's stage, last accepted month, set, stretch and misses after it; its category stays
+abbrev pub takenAs : Event → U.Unit → ℕ → ℕ → Set → Stretch → Misses → Taken
+takenAs event u stage month set stretch misses =
+    record { event = event; unit = record { category = u .category; stage = stage; month = month; set = set; stretch = stretch; misses = misses } }
 
 -- A missed line: by whether it is at most 11 months after an earlier miss since admission.
 abbrev pub missedBy : Bool → U.Unit → ℕ → Taken
-missedBy true u month = takenAs ByMisses PROBATION month (u .set) (u .stretch) (record { last = month; opened = true })
-missedBy false u month = takenAs Missed (u .stage) month (u .set) (u .stretch) (record { last = month; opened = u .misses .opened })
+missedBy true u month = takenAs ByMisses u PROBATION month (u .set) (u .stretch) (record { last = month; opened = true })
+missedBy false u month = takenAs Missed u (u .stage) month (u .set) (u .stretch) (record { last = month; opened = u .misses .opened })
 
 abbrev pub missedOf : U.Unit → Seen → Taken
 missedOf u x = missedBy (again (u .misses .last) (x .month)) u (x .month)
 
 -- A sample: by whether it leaves any chart over.
 abbrev pub sampleBy : Bool → U.Unit → ℕ → Stretch → Taken
-sampleBy true u month s = takenAs ByCharts PROBATION month (u .set) s (u .misses)
-sampleBy false u month s = takenAs Sample (u .stage) month (u .set) s (u .misses)
+sampleBy true u month s = takenAs ByCharts u PROBATION month (u .set) s (u .misses)
+sampleBy false u month s = takenAs Sample u (u .stage) month (u .set) s (u .misses)
 
 abbrev pub sampleOf : Constants → U.Unit → Seen → Taken
 sampleOf c u x = let s = sampledOf c (u .stretch) (x .year) (x .differences) in sampleBy (anyOver c (s .charts)) u (x .month) s
@@ -120,13 +149,13 @@ abbrev pub failedStage : ℕ → ℕ
 failedStage stage = cond (eqb stage APPLICANT) SECOND CLOSED
 
 abbrev pub judgedBy : Bool → U.Unit → ℕ → Taken
-judgedBy true u month = takenAs Passed ACCREDITED month emptySet noSamples noMisses
-judgedBy false u month = takenAs Failed (failedStage (u .stage)) month emptySet (u .stretch) (u .misses)
+judgedBy true u month = takenAs Passed u ACCREDITED month emptySet noSamples noMisses
+judgedBy false u month = takenAs Failed u (failedStage (u .stage)) month emptySet (u .stretch) (u .misses)
 
 -- A study line: by whether it is the set's last.
 abbrev pub studyBy : Bool → Constants → U.Unit → ℕ → Set → Taken
 studyBy true c u month s = judgedBy (passesSet c s) u month
-studyBy false c u month s = takenAs (UnderWay (s .lines)) (u .stage) month s (u .stretch) (u .misses)
+studyBy false c u month s = takenAs (UnderWay (s .lines)) u (u .stage) month s (u .stretch) (u .misses)
 
 abbrev pub studyOf : Constants → U.Unit → Seen → Taken
 studyOf c u x = let s = enteredOf c (u .set) (x .differences) in studyBy (eqb (s .lines) SET) c u (x .month) s
@@ -149,16 +178,16 @@ takenSeen c u x = takenByRow (firstRow (unitRows u x)) c u x
 
 -- All rows of a line given to a unit, for food chemistry 1 to 12: a line that does not read is refused before the stage is looked at. The first that
 -- fits is given, and only then: clause `first` of `take`.
-abbrev pub rowsIn : Category → U.Unit → List ℕ → List Row
+abbrev pub rowsIn : Rules → U.Unit → List ℕ → List Row
 rowsIn g u line = g .rows line ++ unitRows u (g .seen line)
 
-unfoldable pub takenIn : Category → U.Unit → List ℕ → Taken
+unfoldable pub takenIn : Rules → U.Unit → List ℕ → Taken
 unfolding firstRow
 takenIn g u line = takenByRow (firstRow (rowsIn g u line)) (g .constants) u (g .seen line)
 
--- a unit of food chemistry
+-- by the unit's category
 abbrev pub takeRows : U.Unit → List ℕ → List Row
-takeRows u line = rowsIn foodChemistry u line
+takeRows u line = rowsIn (rulesOf (u .category)) u line
 
 abbrev pub takenOf : U.Unit → List ℕ → Taken
-takenOf u line = takenIn foodChemistry u line
+takenOf u line = takenIn (rulesOf (u .category)) u line

@@ -5,16 +5,20 @@ mod shown;
 mod stage;
 mod stretch;
 
-use difference::constants::FOOD;
-use food_line::record::Read;
+use difference::category::Category;
+use difference::category::constants_of;
+use field::residue::no_compound;
 use reply::event::Event;
 use reply::report::Report;
-use seen::food::see;
+use rows::refusal::COMPOUND;
+use seen::see;
 use set::Set;
 use set::empty_set;
 use shown::mask_of;
 use shown::reports;
+use stage::ACCREDITED;
 use stage::APPLICANT;
+use stage::CLOSED;
 use stage::no_misses;
 use stage::refused;
 use stage::take_seen;
@@ -23,13 +27,13 @@ use stretch::no_samples;
 ghost use Prim.Native.Nat.{ℕ};
 ghost use mathlib.Core.List.{List};
 ghost use mathlib.Core.Path.{_≡_};
-ghost use Rattle.food_line.specs.Read.{numberOf};
+ghost use Rattle.difference.specs.declared.category.Category as K;
 ghost use Rattle.rows.specs.Rows.{Answers};
 ghost use Rattle.unit.specs.Claim.{ClaimOf};
 ghost use Rattle.reply.specs.Event.{eventByte, eventRow};
 ghost use Rattle.unit.specs.Reached.{Reached, replay};
 ghost use Rattle.unit.specs.Status.{statusOf};
-ghost use Rattle.unit.specs.Take.{newUnit, takenOf, takeRows};
+ghost use Rattle.unit.specs.Take.{emptyUnit, newUnit, madeOf, takenOf, takeRows};
 
 // The misses since admission: the last one's month, 0 where there is none, and whether misses opened
 // probation.
@@ -38,14 +42,21 @@ pub struct Misses {
     opened: bool,
 }
 
-// A unit: its stage, the last accepted line's month, 0 where there is none, the study set under way,
-// the stretch and the misses. Only `new_unit` and `take` make one.
+// A unit: its category, its stage, the last accepted line's month, 0 where there is none, the study
+// set under way, the stretch and the misses. Only `new_unit`, `new_residue_unit` and `take` make one.
 pub struct Unit {
+    category: Category,
     stage: u8,
     month: u32,
     set: Set,
     stretch: Stretch,
     misses: Misses,
+}
+
+// What making a residue unit gives: 0 and the unit, or the number of the refusal and no unit of ours.
+pub struct Made {
+    pub refusal: u8,
+    pub unit: Unit,
 }
 
 // What taking a line gives: the event, and the unit after it.
@@ -54,12 +65,13 @@ pub struct Taken {
     pub unit: Unit,
 }
 
-pub fn new_unit() -> Unit
-    ensures whole { λ r. ⌜ r ≡ newUnit ⌝ }
-    ensures reached { λ r. ⌜ Reached r ⌝ }
+// A unit that has taken no line.
+fn empty_unit(category: Category, stage: u8) -> Unit
+    ensures { λ r. ⌜ r ≡ emptyUnit category stage ⌝ }
 {
     Unit {
-        stage: APPLICANT,
+        category,
+        stage,
         month: 0,
         set: empty_set(),
         stretch: no_samples(),
@@ -67,13 +79,32 @@ pub fn new_unit() -> Unit
     }
 }
 
-// The number of an answer: 0 for a line that was read, else the refusal's.
-fn number_of(answer: Read) -> u8
-    ensures { λ n. ⌜ n ≡ numberOf answer ⌝ }
+// A new unit of food chemistry.
+pub fn new_unit() -> Unit
+    ensures whole { λ r. ⌜ r ≡ newUnit ⌝ }
+    ensures reached { λ r. ⌜ Reached r ⌝ }
 {
-    match answer {
-        Read::Whole(_) => 0,
-        Read::Refused(n) => n,
+    empty_unit(Category::Food, APPLICANT)
+}
+
+// A new unit for residues of a compound, or the refusal of a number that stands for no compound.
+// `whole`: the answer is the definition's. `reached`: beside no refusal stands a unit that our calls
+// made. `none`: beside a refusal stands no such unit, so that no call that asks for one takes it; its
+// status shows stage 4.
+pub fn new_residue_unit(compound: u8) -> Made
+    ensures whole { λ r. ⌜ r ≡ madeOf compound ⌝ }
+    ensures reached { λ r. ⌜ (r .refusal ≡ 0 → Reached (r .unit)) ⌝ }
+    ensures none { λ r. ⌜ (Reached (r .unit) → r .refusal ≡ 0) ⌝ }
+{
+    if no_compound(compound) {
+        return Made {
+            refusal: COMPOUND,
+            unit: empty_unit(Category::Residue(compound), CLOSED),
+        };
+    }
+    Made {
+        refusal: 0,
+        unit: empty_unit(Category::Residue(compound), ACCREDITED),
     }
 }
 
@@ -88,22 +119,24 @@ pub fn take(unit: Unit, line: &[u8]) -> Taken
     ensures kept { λ r. ⌜ (eventByte (r .event) ≡ 0 → r .unit ≡ unit) ⌝ }
     ensures first { λ r. ⌜ Answers (takeRows unit (now (line .entry))) (eventRow (r .event)) ⌝ }
 {
-    let answer = food_line::read(line);
-    let Read::Whole(r) = answer else {
-        return refused(unit, number_of(answer));
-    };
-    take_seen(FOOD, unit, see(r))
+    let category = unit.category;
+    let sight = see(category, line);
+    if sight.row != 0 {
+        return refused(unit, sight.row);
+    }
+    take_seen(constants_of(category), unit, sight.seen)
 }
 
-// The status of a unit. Whatever list of lines led to the unit, nobody with that list can find a
-// ground for probation that the status misses, or overturn one that it names.
+// The status of a unit. Whatever category it is of and whatever list of lines led to it, nobody with
+// that list can find a ground for probation that the status misses, or overturn one that it names.
 pub fn status(unit: Unit) -> Report
     ensures whole { λ r. ⌜ r ≡ statusOf unit ⌝ }
-    ensures claim { λ r. ⌜ ((ls : List (List ℕ)) → replay ls ≡ unit → ClaimOf ls r) ⌝ }
+    ensures claim { λ r. ⌜ ((k : K.Category) (ls : List (List ℕ)) → replay k ls ≡ unit → ClaimOf k ls r) ⌝ }
 {
+    let category = unit.category;
     let stretch = unit.stretch;
     let misses = unit.misses;
-    let charts = reports(FOOD, stretch);
+    let charts = reports(constants_of(category), stretch);
     Report {
         stage: unit.stage,
         samples: stretch.samples,

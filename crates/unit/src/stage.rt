@@ -10,6 +10,7 @@ use crate::stretch::Stretch;
 use crate::stretch::any_over;
 use crate::stretch::no_samples;
 use crate::stretch::sampled;
+use difference::category::Category;
 use difference::constants::Constants;
 use reply::event::Event;
 use rows::first_of;
@@ -24,7 +25,7 @@ ghost use Rattle.rows.specs.Rows.{firstRow};
 ghost use Rattle.difference.specs.Contribution.{ANALYTES};
 ghost use Rattle.study.specs.Study.{SET};
 ghost use Rattle.unit.specs.Stretch.{anyOver};
-ghost use Rattle.unit.specs.Take.{unitRows, refusedOf, noMisses, takenAs, missedBy, sampleBy, failedStage, judgedBy, studyBy, takenSeen};
+ghost use Rattle.unit.specs.Take.{closedIn, unitRows, refusedOf, noMisses, takenAs, missedBy, sampleBy, failedStage, judgedBy, studyBy, takenSeen};
 ghost use Rattle.unit.specs.bounds.Numbers.{Bounded, GoodSeen, LAST-MONTH};
 
 // The stages.
@@ -54,16 +55,27 @@ const ROW_GAP: u8 = 11;
 
 const ROW_FULL: u8 = 12;
 
+// Row 8: stage 4; of residues every stage but 2, for they have no sets and so no way back.
+fn is_closed(category: Category, stage: u8) -> bool
+    ensures { λ r. ⌜ r ≡ closedIn category stage ⌝ }
+{
+    match category {
+        Category::Food => stage == CLOSED,
+        Category::Residue(_) => stage != ACCREDITED,
+    }
+}
+
 // The first of rows 8 to 12 that fits, or 0.
 fn first_row(u: Unit, x: Seen) -> u8
     ensures { λ n. ⌜ n ≡ firstRow (unitRows u x) ⌝ }
 {
     let stretch = u.stretch;
+    let category = u.category;
     let stage = (!x.study & !(u.stage == ACCREDITED)) | (x.study & (u.stage == ACCREDITED));
     let full = (!x.study & !x.missed) & ((x.year == stretch.year) & (FULL <= stretch.samples));
     first_of(
         [ROW_CLOSED, ROW_STAGE, ROW_BACKDATED, ROW_GAP, ROW_FULL],
-        u.stage == CLOSED,
+        is_closed(category, u.stage),
         stage,
         x.month < u.month,
         x.study & x.missed,
@@ -91,13 +103,23 @@ pub fn no_misses() -> Misses
     }
 }
 
-// What an accepted line leaves.
-fn taken(event: Event, stage: u8, month: u32, set: Set, stretch: Stretch, misses: Misses) -> Taken
-    ensures { λ t. ⌜ t ≡ takenAs event stage month set stretch misses ⌝ }
+// What an accepted line leaves. The category stays.
+fn taken(
+    event: Event,
+    u: Unit,
+    stage: u8,
+    month: u32,
+    set: Set,
+    stretch: Stretch,
+    misses: Misses,
+) -> Taken
+    ensures { λ t. ⌜ t ≡ takenAs event u stage month set stretch misses ⌝ }
 {
+    let category = u.category;
     Taken {
         event,
         unit: Unit {
+            category,
             stage,
             month,
             set,
@@ -113,28 +135,28 @@ fn missed_line(u: Unit, month: u32) -> Taken
 {
     let before = u.misses;
     if month <= before.last + WINDOW {
-        let misses = Misses {
+        let now = Misses {
             last: month,
             opened: true,
         };
-        return taken(Event::ByMisses, PROBATION, month, u.set, u.stretch, misses);
+        return taken(Event::ByMisses, u, PROBATION, month, u.set, u.stretch, now);
     }
-    let misses = Misses {
+    let now = Misses {
         last: month,
         opened: before.opened,
     };
-    taken(Event::Missed, u.stage, month, u.set, u.stretch, misses)
+    taken(Event::Missed, u, u.stage, month, u.set, u.stretch, now)
 }
 
-fn sample_line(c: Constants, u: Unit, month: u32, stretch: Stretch) -> Taken
+fn sample_line(c: Constants, u: Unit, month: u32, s: Stretch) -> Taken
     requires { ⌜ c .analytes ≤ ANALYTES ⌝ }
-    ensures { λ t. ⌜ t ≡ sampleBy (anyOver c (stretch .charts)) u month stretch ⌝ }
+    ensures { λ t. ⌜ t ≡ sampleBy (anyOver c (s .charts)) u month s ⌝ }
 {
-    let charts = stretch.charts;
+    let charts = s.charts;
     if any_over(c, charts) {
-        return taken(Event::ByCharts, PROBATION, month, u.set, stretch, u.misses);
+        return taken(Event::ByCharts, u, PROBATION, month, u.set, s, u.misses);
     }
-    taken(Event::Sample, u.stage, month, u.set, stretch, u.misses)
+    taken(Event::Sample, u, u.stage, month, u.set, s, u.misses)
 }
 
 // The stage after a failed set.
@@ -151,6 +173,7 @@ fn judged(u: Unit, month: u32, passed: bool) -> Taken
     if passed {
         return taken(
             Event::Passed,
+            u,
             ACCREDITED,
             month,
             empty_set(),
@@ -161,6 +184,7 @@ fn judged(u: Unit, month: u32, passed: bool) -> Taken
     let stage = after_failure(u.stage);
     taken(
         Event::Failed,
+        u,
         stage,
         month,
         empty_set(),
@@ -178,6 +202,7 @@ fn study_line(c: Constants, u: Unit, month: u32, set: Set) -> Taken
     }
     taken(
         Event::UnderWay(set.lines),
+        u,
         u.stage,
         month,
         set,

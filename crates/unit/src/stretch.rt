@@ -94,10 +94,15 @@ pub fn any_over(c: Constants, charts: [Chart; CHARTS]) -> bool
     ensures { λ r. ⌜ r ≡ anyOver c charts ⌝ }
 {
     let mut over = false;
-    let mut n: u8 = 0;
-    while n < EACH * c.analytes {
-        over = over | is_over(c, n, charts[n as usize]);
-        n += 1;
+    let mut a: u8 = 0;
+    while a < c.analytes {
+        let n = EACH * a;
+        let first = n as usize;
+        over = over | is_over(c, n, charts[first]);
+        over = over | is_over(c, n + 1, charts[first + 1]);
+        over = over | is_over(c, n + 2, charts[first + 2]);
+        over = over | is_over(c, n + 3, charts[first + 3]);
+        a += 1;
     }
     over
 }

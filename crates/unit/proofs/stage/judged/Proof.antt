@@ -3,6 +3,7 @@ use mathlib.Core.Path.{_≡_, refl, sym, ap, _∙_}
 use mathlib.Core.Bool.{Bool}
 use Prim.Native.Nat.{ℕ}
 use Rattle.unit.specs.Take.{takenAs, judgedBy}
+use Rattle.unit.specs.declared.Unit as U
 use Rattle.unit.specs.declared.Misses.{Misses}
 use Rattle.reply.specs.declared.event.Event.{Event}
 use Rattle.unit.specs.declared.set.Set.{Set}
@@ -12,9 +13,9 @@ use Rattle.unit.proofs.stage.judged.Statement.{statement}
 use Rattle.unit.proofs.stage.judged.Tie as tie
 
 -- what is left, part by part
-left : (e : Event) (month : ℕ) {stage stage′ : ℕ} {set set′ : Set} {stretch stretch′ : Stretch} {misses misses′ : Misses} → stage ≡ stage′ → set ≡ set′
-    → stretch ≡ stretch′ → misses ≡ misses′ → takenAs e stage month set stretch misses ≡ takenAs e stage′ month set′ stretch′ misses′
-left e month es et ss ms = rw (es, et, ss, ms)
+left : (e : Event) (u : U.Unit) (month : ℕ) {stage stage′ : ℕ} {set set′ : Set} {stretch stretch′ : Stretch} {misses misses′ : Misses} → stage ≡ stage′ → set ≡ set′
+    → stretch ≡ stretch′ → misses ≡ misses′ → takenAs e u stage month set stretch misses ≡ takenAs e u stage′ month set′ stretch′ misses′
+left e u month es et ss ms = rw (es, et, ss, ms)
 
 empty-set-requires : tie.Need-empty-set-requires
 empty-set-requires c κs = search needs
@@ -34,7 +35,7 @@ returns c =
     let s = n .before in
     let e = s .before in
     let a = e .before .before .args in
-    c .taken .ensures ∙ left _ _ refl (e .empty-set .ensures) (s .no-samples .ensures) (n .no-misses .ensures)
+    c .taken .ensures ∙ left _ (a .u) _ refl (e .empty-set .ensures) (s .no-samples .ensures) (n .no-misses .ensures)
     ∙ ap (λ (b : Bool). judgedBy b (a .u) (a .month)) (sym (e .before .if1 .taken))
 
 after-failure-requires : tie.Need-after-failure-requires
@@ -51,7 +52,7 @@ returns-2 c =
     let e = c .before in
     let f = e .before in
     let a = f .before .before .args in
-    c .taken2 .ensures ∙ left _ _ (f .after-failure .ensures) (e .empty-set2 .ensures) refl refl
+    c .taken2 .ensures ∙ left _ (a .u) _ (f .after-failure .ensures) (e .empty-set2 .ensures) refl refl
     ∙ ap (λ (b : Bool). judgedBy b (a .u) (a .month)) (sym (f .before .if1 .left))
 
 pub judged-spec : {M : Type 1} → statement M

@@ -16,7 +16,7 @@ returns : tie.Need-returns
 returns c =
     let o = c .before .before in
     let a = o .before .before .args in
-    c .taken .ensures ∙ ap (λ (b : Bool). sampleBy b (a .u) (a .month) (a .stretch)) (sym (c .before .if1 .taken) ∙ o .any-over .ensures)
+    c .taken .ensures ∙ ap (λ (b : Bool). sampleBy b (a .u) (a .month) (a .s)) (sym (c .before .if1 .taken) ∙ o .any-over .ensures)
 
 taken-requires-2 : tie.Need-taken-requires-2
 taken-requires-2 c κs = search needs
@@ -25,7 +25,7 @@ returns-2 : tie.Need-returns-2
 returns-2 c =
     let o = c .before .before in
     let a = o .before .before .args in
-    c .taken2 .ensures ∙ ap (λ (b : Bool). sampleBy b (a .u) (a .month) (a .stretch)) (sym (c .before .if1 .left) ∙ o .any-over .ensures)
+    c .taken2 .ensures ∙ ap (λ (b : Bool). sampleBy b (a .u) (a .month) (a .s)) (sym (c .before .if1 .left) ∙ o .any-over .ensures)
 
 pub sample-line-spec : {M : Type 1} → statement M
 sample-line-spec =

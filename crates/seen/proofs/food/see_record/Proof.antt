@@ -1,4 +1,4 @@
--- `see` meets its contract, part by part, and for a record that was read by `never-refused`. Assumes nothing.
+-- `see_record` meets its contract, part by part, and for a record that was read by `never-refused`. Assumes nothing.
 use Prim.Native.Nat.{ℕ}
 use mathlib.Core.Path.{_≡_, _∙_}
 use mathlib.Core.List.{List}
@@ -9,8 +9,8 @@ use Rattle.seen.specs.Food.{seenOf, seenOfAny}
 use Rattle.seen.specs.declared.Seen.{Seen}
 use Rattle.seen.proofs.FoodLaws.{never-refused}
 use borrow.Author.Needs.{needs}
-use Rattle.seen.proofs.food.see.Statement.{statement}
-use Rattle.seen.proofs.food.see.Tie as tie
+use Rattle.seen.proofs.food.see_record.Statement.{statement}
+use Rattle.seen.proofs.food.see_record.Tie as tie
 
 both : (r : Record) (x : Seen) → x ≡ seenOfAny r → (x ≡ seenOfAny r) × ((line : List ℕ) → readOf line ≡ Whole r → x ≡ seenOf r)
 both r x e = (e, λ line k. e ∙ never-refused line r k)
@@ -18,15 +18,15 @@ both r x e = (e, λ line k. e ∙ never-refused line r k)
 find-differences-requires : tie.Need-find-differences-requires
 find-differences-requires c κs = search needs
 
-month-of-requires : tie.Need-month-of-requires
-month-of-requires c κs = search needs
+month-number-requires : tie.Need-month-number-requires
+month-number-requires c κs = search needs
 
 is-missed-requires : tie.Need-is-missed-requires
 is-missed-requires c κs = search needs
 
 returns : tie.Need-returns
-returns c = both _ _ (rw (c .before .before .before .find-differences .ensures, c .before .month-of .ensures, c .is-missed .ensures))
+returns c = both _ _ (rw (c .before .before .before .find-differences .ensures, c .before .month-number .ensures, c .is-missed .ensures))
 
-pub see-spec : {M : Type 1} → statement M
-see-spec =
-    tie.close (tie.spec find-differences-requires month-of-requires is-missed-requires returns)
+pub see-record-spec : {M : Type 1} → statement M
+see-record-spec =
+    tie.close (tie.spec find-differences-requires month-number-requires is-missed-requires returns)
