@@ -1,32 +1,47 @@
 //! "Contributions to the charts" and the runs of "Stretch and run".
 
-use crate::line::ANALYTES;
-
-pub const CHARTS: usize = 16;
 /// Charts of one analyte: P, N, V, D.
 pub const KINDS: usize = 4;
 /// What one sample adds to each chart, by chart number.
-pub type Contributions = [i32; CHARTS];
+pub type Contributions = Vec<i32>;
 
-pub const LIMITS: [i32; KINDS] = [52, 52, 43, 10_000];
-
-pub fn limit(chart: usize) -> i32 {
-    LIMITS[chart % KINDS]
+/// What charts P and N of a category go by, in tenths. N turns where P does, with the other sign.
+pub struct Turns {
+    /// From a higher d P takes 20.
+    pub high: i32,
+    /// From a lower d P takes -20.
+    pub low: i32,
+    /// What P takes off a d between them.
+    pub shift: i32,
+    pub limit: i32,
 }
 
-pub fn positive(d: i32) -> i32 {
-    match d {
-        25.. => 20,
-        -16..=24 => d - 4,
-        _ => -20,
+pub const FOOD: Turns = Turns { high: 24, low: -16, shift: 4, limit: 52 };
+pub const RESIDUE: Turns = Turns { high: 25, low: -15, shift: 5, limit: 48 };
+
+impl Turns {
+    pub fn limit(&self, chart: usize) -> i32 {
+        [self.limit, self.limit, 43, 10_000][chart % KINDS]
     }
-}
 
-pub fn negative(d: i32) -> i32 {
-    match d {
-        17.. => -20,
-        -24..=16 => -(d + 4),
-        _ => 20,
+    pub fn positive(&self, d: i32) -> i32 {
+        if d > self.high {
+            20
+        } else if d < self.low {
+            -20
+        } else {
+            d - self.shift
+        }
+    }
+
+    pub fn negative(&self, d: i32) -> i32 {
+        if d > -self.low {
+            -20
+        } else if d < -self.high {
+            20
+        } else {
+            -(d + self.shift)
+        }
     }
 }
 
@@ -46,16 +61,12 @@ pub fn large_discrepancy(measure: i32) -> i32 {
     measure - 250
 }
 
-pub fn contributions(differences: &[i32; ANALYTES]) -> Contributions {
-    std::array::from_fn(|chart| {
-        let d = differences[chart / KINDS];
-        match chart % KINDS {
-            0 => positive(d),
-            1 => negative(d),
-            2 => variability(d),
-            _ => large_discrepancy(measure(d)),
-        }
-    })
+/// What a sample with these differences, one for each analyte, adds to the charts.
+pub fn contributions(differences: &[i32], turns: &Turns) -> Contributions {
+    let own = |&d: &i32| {
+        [turns.positive(d), turns.negative(d), variability(d), large_discrepancy(measure(d))]
+    };
+    differences.iter().flat_map(own).collect()
 }
 
 /// Samples `first` to `last` of a stretch, numbered from 1, and the sum of their contributions.
@@ -89,11 +100,12 @@ pub struct Over {
 }
 
 /// The charts that are over after the samples of a stretch, lowest number first.
-pub fn over(stretch: &[Contributions]) -> Vec<Over> {
-    (0..CHARTS)
+pub fn over(stretch: &[Contributions], turns: &Turns) -> Vec<Over> {
+    let charts = stretch.first().map_or(0, Vec::len);
+    (0..charts)
         .filter_map(|chart| {
             let own: Vec<i32> = stretch.iter().map(|sample| sample[chart]).collect();
-            let run = highest_run(&own).filter(|run| run.sum > limit(chart))?;
+            let run = highest_run(&own).filter(|run| run.sum > turns.limit(chart))?;
             Some(Over { chart, run })
         })
         .collect()

@@ -1,6 +1,6 @@
-//! "Standardizing value and difference": s = k × p and d.
+//! "Standardizing value and difference": s = k × p and d, and the difference of request One.
 
-use crate::line::{Class, Line, Product, ANALYTES, FAT, MOISTURE, PROTEIN, SALT};
+use crate::food_line::{Class, Line, Product, ANALYTES, FAT, MOISTURE, PROTEIN, SALT};
 use crate::natural::{largest, Natural};
 
 /// p where the table has a constant.
@@ -43,6 +43,7 @@ impl Powers for Derived {
 }
 
 /// Worked out once for every T and every mean.
+#[derive(Default)]
 pub struct Tables {
     protein_powers: Vec<u32>,
     fourth_roots: Vec<u16>,
@@ -103,13 +104,22 @@ fn fat_thousandths(class: Class, mean: u32) -> u32 {
     }
 }
 
-/// d in tenths, from reading and mean in hundredths and the value s.
-pub fn difference(reading: u16, mean: u16, value: u32) -> i32 {
-    let h = i32::from(reading) - i32::from(mean);
+/// h × scale / value with the sign of h: to the nearest whole, halves away from zero, capped.
+fn rounded(h: i32, scale: u64, value: u32) -> i32 {
     let value = u64::from(value);
-    let doubled = 2 * u64::from(h.unsigned_abs()) * 1_000_000;
+    let doubled = 2 * u64::from(h.unsigned_abs()) * scale;
     let size = ((doubled + value) / (2 * value)).min(CAP);
     h.signum() * size as i32
+}
+
+/// d in tenths, from reading and mean in hundredths and the value s.
+pub fn difference(reading: u16, mean: u16, value: u32) -> i32 {
+    rounded(i32::from(reading) - i32::from(mean), 1_000_000, value)
+}
+
+/// d in tenths, from the logs of result and comparison and the value, all in thousandths.
+pub fn residue_difference(result: i16, comparison: i16, value: u32) -> i32 {
+    rounded(i32::from(result) - i32::from(comparison), 10, value)
 }
 
 /// The difference of one reading that is not lost.

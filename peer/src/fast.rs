@@ -1,17 +1,21 @@
 //! The same unit by the incremental rule: a state that each line moves, tables worked out once.
 
-use crate::charts::{measure, Contributions, Over, Run, CHARTS, KINDS};
-use crate::difference::{differences, Tables};
-use crate::line::{read, Kind, Line, ANALYTES};
+use crate::category::{Category, Kind, MOST_CHARTS};
+use crate::charts::{measure, Over, Run, KINDS};
+use crate::difference::Tables;
+use crate::food_line::ANALYTES;
 use crate::refused::Refusal;
 use crate::study::{Sums, SET};
 use crate::unit::{Event, Stage, Status, LONGEST_STRETCH, MISSES_APART};
 
-/// The limits by chart number.
-const CHART_LIMITS: [i32; CHARTS] =
-    [52, 52, 43, 10_000, 52, 52, 43, 10_000, 52, 52, 43, 10_000, 52, 52, 43, 10_000];
+/// A number for each chart; those that the category lacks stay 0.
+type Charts = [i32; MOST_CHARTS];
 
 pub struct Unit {
+    category: Category,
+    /// What chart P takes off a difference, and N off its opposite.
+    shift: i32,
+    limits: Charts,
     tables: Tables,
     /// The measure by the size of d.
     measures: Vec<i32>,
@@ -22,35 +26,37 @@ pub struct Unit {
     /// The year of the last sample, where there is one.
     year: u16,
     samples: u16,
-    values: [i32; CHARTS],
+    values: Charts,
     /// The first sample of the run shown for each chart.
-    firsts: [i32; CHARTS],
+    firsts: Charts,
     last_miss: Option<u32>,
     misses: bool,
 }
 
-impl Default for Unit {
-    fn default() -> Unit {
+impl Unit {
+    pub fn new(category: Category) -> Unit {
+        let (shift, limit, tables) = match category {
+            Category::Food => (4, 52, Tables::derive()),
+            // It has no powers.
+            Category::Residue(_) => (5, 48, Tables::default()),
+        };
         Unit {
-            tables: Tables::derive(),
+            category,
+            shift,
+            limits: std::array::from_fn(|chart| [limit, limit, 43, 10_000][chart % KINDS]),
+            tables,
             measures: (0..=999).map(measure).collect(),
-            stage: Stage::Applicant,
+            stage: category.first_stage(),
             last_month: 0,
             set_lines: 0,
             sums: Default::default(),
             year: 0,
             samples: 0,
-            values: [0; CHARTS],
-            firsts: [0; CHARTS],
+            values: [0; MOST_CHARTS],
+            firsts: [0; MOST_CHARTS],
             last_miss: None,
             misses: false,
         }
-    }
-}
-
-impl Unit {
-    pub fn new() -> Unit {
-        Unit::default()
     }
 
     pub fn take(&mut self, text: &[u8]) -> Event {
@@ -58,29 +64,29 @@ impl Unit {
     }
 
     fn accept(&mut self, text: &[u8]) -> Result<Event, Refusal> {
-        let line = read(text)?;
-        if self.stage == Stage::Closed {
+        let seen = self.category.see(text, &self.tables)?;
+        if self.category.closed(self.stage) {
             return Err(Refusal::Closed);
         }
-        if (line.kind == Kind::Maintenance) != (self.stage == Stage::Accredited) {
+        if (seen.kind == Kind::Maintenance) != (self.stage == Stage::Accredited) {
             return Err(Refusal::Stage);
         }
-        let month = line.month_number();
+        let month = seen.head.month_number();
         if month < self.last_month {
             return Err(Refusal::Backdated);
         }
-        let event = match (line.kind, line.incomplete()) {
-            (Kind::Study, true) => return Err(Refusal::Gap),
-            (Kind::Study, false) => self.study(&line),
-            (Kind::Maintenance, true) => self.missed(month),
-            (Kind::Maintenance, false) => self.sample(&line)?,
+        let event = match (seen.kind, seen.differences) {
+            (Kind::Study, None) => return Err(Refusal::Gap),
+            (Kind::Study, Some(own)) => self.study(own),
+            (Kind::Maintenance, None) => self.missed(month),
+            (Kind::Maintenance, Some(own)) => self.sample(seen.head.year, own)?,
         };
         self.last_month = month;
         Ok(event)
     }
 
-    fn study(&mut self, line: &Line) -> Event {
-        for (sums, d) in self.sums.iter_mut().zip(differences(line, &self.tables)) {
+    fn study(&mut self, own: [i32; ANALYTES]) -> Event {
+        for (sums, d) in self.sums.iter_mut().zip(own) {
             sums.add(d, self.measures[d.unsigned_abs() as usize]);
         }
         self.set_lines += 1;
@@ -104,7 +110,7 @@ impl Unit {
     fn admit(&mut self) {
         self.stage = Stage::Accredited;
         self.samples = 0;
-        self.values = [0; CHARTS];
+        self.values = [0; MOST_CHARTS];
         self.last_miss = None;
         self.misses = false;
     }
@@ -119,20 +125,20 @@ impl Unit {
         Event::ProbationByMisses
     }
 
-    fn sample(&mut self, line: &Line) -> Result<Event, Refusal> {
-        let same_stretch = self.samples > 0 && self.year == line.year;
+    fn sample(&mut self, year: u16, differences: [i32; ANALYTES]) -> Result<Event, Refusal> {
+        let same_stretch = self.samples > 0 && self.year == year;
         if same_stretch && usize::from(self.samples) == LONGEST_STRETCH {
             return Err(Refusal::Full);
         }
-        let own = self.contributions(line);
+        let own = self.contributions(&differences);
         if same_stretch {
             self.samples += 1;
             self.move_charts(&own);
         } else {
-            self.year = line.year;
+            self.year = year;
             self.samples = 1;
             self.values = own;
-            self.firsts = [1; CHARTS];
+            self.firsts = [1; MOST_CHARTS];
         }
         if self.any_over() {
             self.stage = Stage::Probation;
@@ -141,23 +147,30 @@ impl Unit {
         Ok(Event::Sample)
     }
 
-    fn contributions(&self, line: &Line) -> Contributions {
-        let mut own = [0; CHARTS];
-        let each = own.chunks_exact_mut(KINDS).zip(differences(line, &self.tables));
-        for (own, d) in each {
-            let measure = self.measures[d.unsigned_abs() as usize];
-            own.copy_from_slice(&[
-                (d - 4).clamp(-20, 20),
-                (-d - 4).clamp(-20, 20),
-                (d.abs() - 9).clamp(-4, 16),
-                measure - 250,
-            ]);
+    fn contributions(&self, differences: &[i32; ANALYTES]) -> Charts {
+        let mut own = [0; MOST_CHARTS];
+        match self.category {
+            Category::Food => self.contribute(differences, &mut own),
+            Category::Residue(_) => self.contribute(&differences[..1], &mut own),
         }
         own
     }
 
+    #[inline(always)]
+    fn contribute(&self, differences: &[i32], own: &mut Charts) {
+        for (own, &d) in own.chunks_exact_mut(KINDS).zip(differences) {
+            let measure = self.measures[d.unsigned_abs() as usize];
+            own.copy_from_slice(&[
+                (d - self.shift).clamp(-20, 20),
+                (-d - self.shift).clamp(-20, 20),
+                (d.abs() - 9).clamp(-4, 16),
+                measure - 250,
+            ]);
+        }
+    }
+
     /// A later sample. From sample 3 on, a chart at 0 starts its run anew.
-    fn move_charts(&mut self, own: &Contributions) {
+    fn move_charts(&mut self, own: &Charts) {
         let sample = i32::from(self.samples);
         let starts_anew = sample >= 3;
         let charts = self.values.iter_mut().zip(&mut self.firsts).zip(own);
@@ -171,23 +184,33 @@ impl Unit {
         self.stage
     }
 
+    /// Year and month of the last accepted line.
+    pub fn last_date(&self) -> (u16, u8) {
+        let months = self.last_month - 1;
+        ((months / 12) as u16, (months % 12 + 1) as u8)
+    }
+
     /// How many lines the set under way has.
     pub fn set_lines(&self) -> usize {
         usize::from(self.set_lines)
     }
 
+    pub fn category(&self) -> Category {
+        self.category
+    }
+
     /// The charts' values by their number.
-    pub fn values(&self) -> &[i32; CHARTS] {
-        &self.values
+    pub fn values(&self) -> &[i32] {
+        &self.values[..self.category.charts()]
     }
 
     fn any_over(&self) -> bool {
-        let charts = self.values.iter().zip(&CHART_LIMITS);
+        let charts = self.values.iter().zip(&self.limits);
         charts.fold(false, |over, (value, limit)| over | (value > limit))
     }
 
     fn is_over(&self, chart: usize) -> bool {
-        self.values[chart] > CHART_LIMITS[chart]
+        self.values[chart] > self.limits[chart]
     }
 
     pub fn status(&self) -> Status {
@@ -199,7 +222,7 @@ impl Unit {
                 sum: self.values[chart],
             },
         };
-        let named = (0..CHARTS).filter(|&chart| self.is_over(chart));
+        let named = (0..MOST_CHARTS).filter(|&chart| self.is_over(chart));
         Status {
             stage: self.stage,
             samples: self.samples,

@@ -1,5 +1,6 @@
-//! Lists of lines from a seed. The fast unit goes along, so that the lists lead where they should:
-//! through sets, admissions, charts at their limits, misses, full stretches and closing.
+//! Lists of lines from a seed, of either category. The fast unit goes along, so that the lists lead
+//! where they should: through sets, admissions, charts at their limits, misses, full stretches and
+//! closing.
 
 mod clock;
 mod disorder;
@@ -11,6 +12,7 @@ mod samples;
 mod sets;
 mod theme;
 
+use crate::category::Category;
 use crate::fast::Unit;
 use crate::random::Random;
 use crate::unit::Stage;
@@ -20,8 +22,6 @@ use theme::Theme;
 pub use clock::long;
 
 pub const LONGEST_LIST: usize = 1500;
-const MAINTENANCE: u8 = 1;
-const STUDY: u8 = 2;
 
 struct Author {
     random: Random,
@@ -35,10 +35,10 @@ struct Author {
     month: u8,
 }
 
-/// One list of a seed, as the program's input.
-pub fn list(seed: u64, number: u64) -> Vec<u8> {
+/// One list of a category and a seed, as the program's input.
+pub fn list(category: Category, seed: u64, number: u64) -> Vec<u8> {
     let mut random = Random::new(seed, number);
-    let theme = Theme::of(number);
+    let theme = Theme::of(category, number);
     let most_lines = match random.below(10) {
         _ if [Theme::Shown, Theme::Full].contains(&theme) => LONGEST_LIST,
         0 => random.below(40),
@@ -46,13 +46,14 @@ pub fn list(seed: u64, number: u64) -> Vec<u8> {
         _ => 40 + random.below(460),
     };
     let disorder = match theme {
+        Theme::Anything if category != Category::Food => random.pick(&[2, 20, 80, 80]),
         Theme::Anything => random.pick(&[0, 2, 20, 80]),
         Theme::Shown | Theme::Sets => random.pick(&[0, 0, 2, 10]),
         Theme::Full => random.pick(&[0, 1]),
     };
     let year = random.pick(&[2000, 2011, 2012, 2050, 2090, 2098, 2099]);
     let month = random.between(1, 12) as u8;
-    let mut author = Author { disorder, year, month, ..Author::new(random, most_lines) };
+    let mut author = Author { disorder, year, month, ..Author::new(category, random, most_lines) };
     while author.more() {
         author.episode(theme);
     }
@@ -61,13 +62,21 @@ pub fn list(seed: u64, number: u64) -> Vec<u8> {
 
 impl Author {
     /// In good order, from January 2000 on.
-    fn new(random: Random, most_lines: usize) -> Author {
-        let (unit, input) = (Unit::new(), Vec::new());
+    fn new(category: Category, random: Random, most_lines: usize) -> Author {
+        let (unit, input) = (Unit::new(category), Vec::new());
         Author { random, unit, input, lines: 0, most_lines, disorder: 0, year: 2000, month: 1 }
     }
 
     fn more(&self) -> bool {
         self.lines < self.most_lines
+    }
+
+    fn category(&self) -> Category {
+        self.unit.category()
+    }
+
+    fn analytes(&self) -> usize {
+        self.category().analytes()
     }
 
     /// How many samples the stretch has.

@@ -1,4 +1,4 @@
-//! "Refused": the rows of the table in their order, 1 to 12.
+//! "Refused": the numbers of its rows, and request One's. Number 13 is for writing alone.
 
 #[derive(Clone, Copy, Debug, PartialEq, Eq)]
 pub enum Refusal {
@@ -14,10 +14,12 @@ pub enum Refusal {
     Backdated,
     Gap,
     Full,
+    Compound = 14,
+    Log,
 }
 
 impl Refusal {
-    pub const ALL: [Refusal; 12] = [
+    pub const ALL: [Refusal; 14] = [
         Refusal::Length,
         Refusal::Digit,
         Refusal::Kind,
@@ -30,6 +32,8 @@ impl Refusal {
         Refusal::Backdated,
         Refusal::Gap,
         Refusal::Full,
+        Refusal::Compound,
+        Refusal::Log,
     ];
 
     pub fn number(self) -> u8 {

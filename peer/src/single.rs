@@ -1,8 +1,8 @@
 //! One value and one difference, outside any line: what the program `standard` answers.
 
-use crate::charts::{large_discrepancy, measure, negative, positive, variability};
+use crate::charts::{large_discrepancy, measure, variability, FOOD};
 use crate::difference::{difference, value, Derived};
-use crate::line::{mean_fits, Product, ANALYTES};
+use crate::food_line::{mean_fits, Product, ANALYTES};
 use crate::refused::Refusal;
 
 const DIGITS: usize = 12;
@@ -33,7 +33,7 @@ fn answer(row: &[u8]) -> Result<String, Refusal> {
     }
     let s = value(product, analyte, mean, &Derived);
     let d = difference(reading, mean, s);
-    let (p, n, v) = (positive(d), negative(d), variability(d));
+    let (p, n, v) = (FOOD.positive(d), FOOD.negative(d), variability(d));
     Ok(format!("{s} {d} {p} {n} {v} {}", large_discrepancy(measure(d))))
 }
 

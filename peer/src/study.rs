@@ -1,7 +1,7 @@
 //! The rule of "Stages" by which a study set passes.
 
 use crate::charts::measure;
-use crate::line::ANALYTES;
+use crate::food_line::ANALYTES;
 
 pub const SET: usize = 36;
 

@@ -1,9 +1,11 @@
 //! "Stages", "Stretch and run" and rows 8 to 12 of "Refused", read off the list of accepted
 //! lines and their events. Nothing else is kept.
 
+use crate::category::{Category, Kind};
 use crate::charts::{contributions, over, Contributions, Over};
-use crate::difference::{differences, Derived};
-use crate::line::{read, Kind, Line, ANALYTES};
+use crate::difference::Derived;
+use crate::food_line::ANALYTES;
+use crate::head::Head;
 use crate::refused::Refusal;
 use crate::study::{passes, SET};
 
@@ -64,20 +66,19 @@ enum Accepted {
 }
 
 struct Entry {
-    year: u16,
-    month_number: u32,
+    head: Head,
     accepted: Accepted,
     event: Event,
 }
 
-#[derive(Default)]
 pub struct Unit {
+    category: Category,
     entries: Vec<Entry>,
 }
 
 impl Unit {
-    pub fn new() -> Unit {
-        Unit::default()
+    pub fn new(category: Category) -> Unit {
+        Unit { category, entries: Vec::new() }
     }
 
     pub fn take(&mut self, text: &[u8]) -> Event {
@@ -92,43 +93,41 @@ impl Unit {
     }
 
     fn judge(&self, text: &[u8]) -> Result<Entry, Refusal> {
-        let line = read(text)?;
-        let stage = self.stage();
-        if stage == Stage::Closed {
+        let seen = self.category.see(text, &Derived)?;
+        let (head, stage) = (seen.head, self.stage());
+        if self.category.closed(stage) {
             return Err(Refusal::Closed);
         }
-        if (line.kind == Kind::Maintenance) != (stage == Stage::Accredited) {
+        if (seen.kind == Kind::Maintenance) != (stage == Stage::Accredited) {
             return Err(Refusal::Stage);
         }
-        let last_month = self.entries.last().map(|entry| entry.month_number);
-        if last_month.is_some_and(|last| line.month_number() < last) {
+        let last_month = self.entries.last().map(|entry| entry.head.month_number());
+        if last_month.is_some_and(|last| head.month_number() < last) {
             return Err(Refusal::Backdated);
         }
-        let (accepted, event) = match (line.kind, line.incomplete()) {
-            (Kind::Study, true) => return Err(Refusal::Gap),
-            (Kind::Study, false) => self.study(&line),
-            (Kind::Maintenance, true) => (Accepted::Missed, self.missed(&line)),
-            (Kind::Maintenance, false) => self.sample(&line)?,
+        let (accepted, event) = match (seen.kind, seen.differences) {
+            (Kind::Study, None) => return Err(Refusal::Gap),
+            (Kind::Study, Some(own)) => (Accepted::Study(own), self.study(own)),
+            (Kind::Maintenance, None) => (Accepted::Missed, self.missed(head)),
+            (Kind::Maintenance, Some(own)) => self.sample(head, &own)?,
         };
-        Ok(Entry { year: line.year, month_number: line.month_number(), accepted, event })
+        Ok(Entry { head, accepted, event })
     }
 
-    fn study(&self, line: &Line) -> (Accepted, Event) {
-        let own = differences(line, &Derived);
+    fn study(&self, own: [i32; ANALYTES]) -> Event {
         let mut set = self.set_so_far();
         set.push(own);
-        let event = match set.len() {
+        match set.len() {
             SET if passes(&set) => Event::Passed,
             SET => Event::Failed,
             lines => Event::UnderWay(lines as u8),
-        };
-        (Accepted::Study(own), event)
+        }
     }
 
-    fn missed(&self, line: &Line) -> Event {
+    fn missed(&self, head: Head) -> Event {
         let soon_after = |entry: &Entry| {
             matches!(entry.accepted, Accepted::Missed)
-                && line.month_number() - entry.month_number <= MISSES_APART
+                && head.month_number() - entry.head.month_number() <= MISSES_APART
         };
         match self.since_admission().any(soon_after) {
             true => Event::ProbationByMisses,
@@ -136,17 +135,21 @@ impl Unit {
         }
     }
 
-    fn sample(&self, line: &Line) -> Result<(Accepted, Event), Refusal> {
-        let own = contributions(&differences(line, &Derived));
+    fn sample(
+        &self,
+        head: Head,
+        differences: &[i32; ANALYTES],
+    ) -> Result<(Accepted, Event), Refusal> {
+        let own = contributions(&differences[..self.category.analytes()], self.category.turns());
         let mut stretch = match self.last_sample_year() {
-            Some(year) if year == line.year => self.stretch(),
+            Some(year) if year == head.year => self.stretch(),
             _ => Vec::new(),
         };
         if stretch.len() == LONGEST_STRETCH {
             return Err(Refusal::Full);
         }
-        stretch.push(own);
-        let event = match over(&stretch).is_empty() {
+        stretch.push(own.clone());
+        let event = match over(&stretch, self.category.turns()).is_empty() {
             true => Event::Sample,
             false => Event::ProbationByCharts,
         };
@@ -160,12 +163,13 @@ impl Unit {
             stage: self.stage(),
             samples: stretch.len() as u16,
             misses: self.since_admission().any(by_misses),
-            over: over(&stretch),
+            over: over(&stretch, self.category.turns()),
         }
     }
 
     /// Study lines come only before admission and after probation, so going back over them leads
-    /// to the start or to what opened probation, past the sets that failed.
+    /// to the start or to what opened probation, past the sets that failed. A unit without sets
+    /// has none of them.
     pub fn stage(&self) -> Stage {
         let mut failed = 0;
         for entry in self.entries.iter().rev() {
@@ -179,7 +183,7 @@ impl Unit {
                 _ => return Stage::Accredited,
             }
         }
-        [Stage::Applicant, Stage::SecondSet, Stage::Closed][failed]
+        [self.category.first_stage(), Stage::SecondSet, Stage::Closed][failed]
     }
 
     /// The entries after the last admission, or all, from the last back.
@@ -190,7 +194,7 @@ impl Unit {
     /// The years and contributions of the samples since admission, from the last back.
     fn samples(&self) -> impl Iterator<Item = (u16, &Contributions)> {
         self.since_admission().filter_map(|entry| match &entry.accepted {
-            Accepted::Sample(own) => Some((entry.year, own)),
+            Accepted::Sample(own) => Some((entry.head.year, own)),
             _ => None,
         })
     }
@@ -203,7 +207,7 @@ impl Unit {
     pub fn stretch(&self) -> Vec<Contributions> {
         let last_year = self.last_sample_year();
         let same_year = self.samples().take_while(|(year, _)| Some(*year) == last_year);
-        let mut stretch: Vec<Contributions> = same_year.map(|(_, own)| *own).collect();
+        let mut stretch: Vec<Contributions> = same_year.map(|(_, own)| own.clone()).collect();
         stretch.reverse();
         stretch
     }

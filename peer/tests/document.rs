@@ -1,10 +1,11 @@
 //! Document 01's figures A to L, and the two lines of "The program".
 
+use peer::category::Category;
 use peer::charts::{
-    highest_run, large_discrepancy, limit, measure, negative, positive, variability, Run,
+    contributions, highest_run, large_discrepancy, measure, variability, Run, FOOD,
 };
 use peer::difference::{difference, fourth_root, protein_power, value, Derived};
-use peer::line::{read, Product, Reading, MOISTURE, SALT};
+use peer::food_line::{read, Product, Reading, MOISTURE, SALT};
 use peer::program::{stream, transcript};
 use peer::refused::Refusal;
 use peer::study::analyte_passes;
@@ -53,8 +54,9 @@ fn d_of(class: u8, analyte: usize, mean: u16, h: u16) -> i32 {
 fn f_moisture_of_other_meat() {
     let d = d_of(2, MOISTURE, 6000, 100);
     assert_eq!(d, 18);
-    let all = [positive(d), negative(d), variability(d), large_discrepancy(measure(d))];
+    let all = [FOOD.positive(d), FOOD.negative(d), variability(d), large_discrepancy(measure(d))];
     assert_eq!(all, [14, -20, 9, -250]);
+    assert_eq!(contributions(&[d], &FOOD), all);
 }
 
 #[test]
@@ -72,9 +74,9 @@ fn run(contributions: &[i32]) -> Run {
 #[test]
 fn h_at_the_limit_and_over() {
     assert_eq!(run(&[20, 20, 12]).sum, 52);
-    assert!(run(&[20, 20, 12]).sum <= limit(0));
+    assert!(run(&[20, 20, 12]).sum <= FOOD.limit(0));
     assert_eq!(run(&[20, 20, 13]), Run { first: 1, last: 3, sum: 53 });
-    assert!(run(&[20, 20, 13]).sum > limit(0));
+    assert!(run(&[20, 20, 13]).sum > FOOD.limit(0));
 }
 
 #[test]
@@ -104,9 +106,9 @@ fn l_sets_of_two_differences() {
 fn the_program() {
     let input = format!("00\n{LINE}\n");
     let expected = "0001\n0301\n000000000000\n";
-    assert_eq!(transcript(input.as_bytes()), expected.as_bytes());
+    assert_eq!(transcript(Category::Food, input.as_bytes()), expected.as_bytes());
     let mut output = Vec::new();
-    stream(&mut input.as_bytes(), &mut output).unwrap();
+    stream(Category::Food, &mut input.as_bytes(), &mut output).unwrap();
     assert_eq!(output, expected.as_bytes());
 }
 

@@ -1,19 +1,22 @@
-//! Gives lists of a seed to a program and to the peer and compares whole outputs.
-//! `differ PROGRAM SEED COUNT [ARGUMENT OF THE PROGRAM]`
+//! Gives lists of a seed to the two programs and to the peer and compares whole outputs.
+//! `differ SEED COUNT PROGRAM RESIDUE_PROGRAM`, each program with its arguments in one word.
 
 use std::collections::BTreeMap;
 use std::fs::{self, File};
 use std::io::{self, IsTerminal, Write};
 use std::path::PathBuf;
-use std::process::{exit, Command};
+use std::process::exit;
 use std::time::Instant;
 
+use peer::arguments::{command, usage, words};
+use peer::category::Category;
 use peer::lists::list;
 use peer::program::{lines, transcript};
 
 struct Program {
+    category: Category,
+    /// With its arguments, between spaces.
     command: String,
-    arguments: Vec<String>,
     /// Where a list lies while the program reads it.
     list: PathBuf,
 }
@@ -22,8 +25,7 @@ impl Program {
     /// What it prints for a list, or how it ended.
     fn output(&self, input: &[u8]) -> io::Result<Vec<u8>> {
         fs::write(&self.list, input)?;
-        let mut command = Command::new(&self.command);
-        let ended = command.args(&self.arguments).stdin(File::open(&self.list)?).output()?;
+        let ended = command(&self.command).stdin(File::open(&self.list)?).output()?;
         let mut output = ended.stdout;
         if !ended.status.success() {
             output.extend(format!("[{}]", ended.status).into_bytes());
@@ -32,7 +34,7 @@ impl Program {
     }
 
     fn differs(&self, input: &[u8]) -> io::Result<bool> {
-        Ok(self.output(input)? != transcript(input))
+        Ok(self.output(input)? != transcript(self.category, input))
     }
 
     /// Takes lines away, first many at once, as long as the outputs still differ.
@@ -60,10 +62,37 @@ impl Program {
         fs::write(&self.list, &short)?;
         println!("The list, cut down, is in {}:", self.list.display());
         println!("{}", String::from_utf8_lossy(&short));
-        let (theirs, ours) = (self.output(&short)?, transcript(&short));
+        let (theirs, ours) = (self.output(&short)?, transcript(self.category, &short));
         println!("The program prints:\n{}", String::from_utf8_lossy(&theirs));
         println!("The peer prints:\n{}", String::from_utf8_lossy(&ours));
         Ok(())
+    }
+
+    /// How many of the lists it failed.
+    fn failed(&self, seed: u64, count: u64) -> io::Result<u64> {
+        println!("{} against the peer, seed {seed}", self.command);
+        let start = Instant::now();
+        let (mut failed, mut line_count, mut tally) = (0, 0, Tally::default());
+        for number in 0..count {
+            let input = list(self.category, seed, number);
+            let ours = transcript(self.category, &input);
+            if self.output(&input)? != ours {
+                failed += 1;
+                if failed == 1 {
+                    println!("\nFirst difference: seed {seed}, list {number}.");
+                    self.show_difference(&input)?;
+                }
+            }
+            line_count += lines(&input).count();
+            tally.add(&ours);
+            progress(number + 1, count, failed, line_count, start);
+        }
+        println!();
+        tally.print();
+        if failed == 0 {
+            fs::remove_file(&self.list)?;
+        }
+        Ok(failed)
     }
 }
 
@@ -103,41 +132,29 @@ fn progress(done: u64, count: u64, failed: u64, lines: usize, start: Instant) {
 }
 
 fn main() -> io::Result<()> {
-    let words: Vec<String> = std::env::args().skip(1).collect();
-    let [command, seed, count, arguments @ ..] = &words[..] else {
-        eprintln!("use: differ PROGRAM SEED COUNT [ARGUMENT..]");
-        exit(2)
-    };
+    const USE: &str = "differ SEED COUNT PROGRAM RESIDUE_PROGRAM";
+    let words = words();
+    let [seed, count, food, residue] = &words[..] else { usage("four words are wanted", USE) };
     let (Ok(seed), Ok(count)) = (seed.parse::<u64>(), count.parse::<u64>()) else {
-        eprintln!("differ: seed and count are whole numbers");
-        exit(2)
+        usage("seed and count are whole numbers", USE)
     };
-    let list_path = std::env::temp_dir().join(format!("peer-list-{}", std::process::id()));
-    let (command, arguments) = (command.clone(), arguments.to_vec());
-    let program = Program { command, arguments, list: list_path };
-    println!("{} {} against the peer, seed {seed}", program.command, program.arguments.join(" "));
-
-    let start = Instant::now();
-    let (mut failed, mut line_count, mut tally) = (0, 0, Tally::default());
-    for number in 0..count {
-        let input = list(seed, number);
-        let ours = transcript(&input);
-        if program.output(&input)? != ours {
-            failed += 1;
-            if failed == 1 {
-                println!("\nFirst difference: seed {seed}, list {number}.");
-                program.show_difference(&input)?;
-            }
-        }
-        line_count += lines(&input).count();
-        tally.add(&ours);
-        progress(number + 1, count, failed, line_count, start);
+    let list =
+        |name: &str| std::env::temp_dir().join(format!("peer-{name}-list-{}", std::process::id()));
+    let programs = [
+        Program { category: Category::Food, command: food.clone(), list: list("food") },
+        Program {
+            category: Category::tested_residue(),
+            command: residue.clone(),
+            list: list("residue"),
+        },
+    ];
+    let mut failed = 0;
+    for program in &programs {
+        failed += program.failed(seed, count)?;
     }
-    println!();
-    tally.print();
-    println!("{} passed, {failed} failed", count - failed);
+    println!("{} passed, {failed} failed", programs.len() as u64 * count - failed);
     if failed > 0 {
         exit(1)
     }
-    fs::remove_file(&program.list)
+    Ok(())
 }

@@ -1,19 +1,19 @@
-//! Reading alone: for each line its refusal's number, 01 to 07, or the line written back.
+//! Reading alone: for each line its refusal's number or the line written back.
 
 use std::io::{self, Read, Write};
 
-use peer::line::{encode, read};
-use peer::program::lines;
+use peer::arguments::{take_category, usage, words};
+use peer::program::{lines, read_back};
 
 fn main() -> io::Result<()> {
+    let mut words = words();
+    let category = take_category(&mut words)
+        .unwrap_or_else(|error| usage(&error, "lines [--residue COMPOUND] <lines"));
     let mut input = Vec::new();
     io::stdin().lock().read_to_end(&mut input)?;
     let mut text = Vec::new();
     for line in lines(&input) {
-        match read(line) {
-            Ok(line) => text.extend(line.write()),
-            Err(refusal) => encode(&[refusal.number()], &mut text),
-        }
+        text.extend(read_back(category, line));
         text.push(b'\n');
     }
     io::stdout().lock().write_all(&text)

@@ -1,28 +1,31 @@
-//! The charts of a list: `view PROGRAM NAME LIST OUT.svg`, or `view --text PROGRAM NAME LIST`.
-//! NAME is what the caption calls the program.
+//! The charts of a list: `view PROGRAM NAME LIST OUT.svg`, or `view --text PROGRAM NAME LIST`,
+//! with `--residue COMPOUND` where it is a residue list. NAME is what the caption calls the program.
 
 use std::io::{self, Write};
 use std::path::Path;
-use std::process::{exit, Command, Stdio};
-use std::{env, fs, thread};
+use std::process::{exit, Stdio};
+use std::{fs, thread};
 
+use peer::arguments::{command, take_category, words};
+use peer::category::Category;
 use peer::program::lines;
 use peer::view::answers::{parse, Answers};
 use peer::view::history::{history, History};
 use peer::view::{svg, text};
 
-const USE: &str = "use: view PROGRAM NAME LIST OUT.svg, or view --text PROGRAM NAME LIST";
+const USE: &str = "use: view [--residue COMPOUND] PROGRAM NAME LIST OUT.svg, \
+                   or view --text [--residue COMPOUND] PROGRAM NAME LIST";
 
 /// The program's answers to a list of lines.
 fn ask(program: &str, list: &[&[u8]]) -> Result<Answers, String> {
     let output = run(program, list).map_err(|error| format!("{program}: {error}"))?;
     let answers = parse(&output, list.len());
-    answers.ok_or_else(|| format!("{program} does not print what document 01 says"))
+    answers.ok_or_else(|| format!("{program} does not print what the documents say"))
 }
 
 /// What the program prints; it is fed from beside, so that neither waits for the other.
 fn run(program: &str, list: &[&[u8]]) -> io::Result<Vec<u8>> {
-    let mut child = Command::new(program).stdin(Stdio::piped()).stdout(Stdio::piped()).spawn()?;
+    let mut child = command(program).stdin(Stdio::piped()).stdout(Stdio::piped()).spawn()?;
     let mut input = child.stdin.take().expect("its input is a pipe");
     let whole: Vec<u8> = list.iter().flat_map(|line| [line, &b"\n"[..]].concat()).collect();
     let ended = thread::scope(|scope| {
@@ -32,11 +35,11 @@ fn run(program: &str, list: &[&[u8]]) -> io::Result<Vec<u8>> {
     Ok(ended.stdout)
 }
 
-fn read(program: &str, list: &str) -> Result<History, String> {
+fn read(category: Category, program: &str, list: &str) -> Result<History, String> {
     let input = fs::read(list).map_err(|error| format!("{list}: {error}"))?;
     let list: Vec<&[u8]> = lines(&input).collect();
     let answers = ask(program, &list)?;
-    history(&list, &answers, &mut |count| Ok(ask(program, &list[..count])?.status))
+    history(category, &list, &answers, &mut |count| Ok(ask(program, &list[..count])?.status))
 }
 
 /// What the caption calls a list: its file, or the folder of one that is only called `stdin`.
@@ -49,15 +52,15 @@ fn list_name(path: &str) -> String {
     name.unwrap_or_default().to_string_lossy().into_owned()
 }
 
-fn show(words: &[&str]) -> Result<(), String> {
+fn show(category: Category, words: &[&str]) -> Result<(), String> {
     match words {
         ["--text", program, name, list] => {
-            let page = text::page(&list_name(list), name, &read(program, list)?);
+            let page = text::page(&list_name(list), name, &read(category, program, list)?);
             let written = io::stdout().write_all(page.as_bytes());
             written.map_err(|error| error.to_string())
         }
         [program, name, list, out] => {
-            let picture = svg::picture(&list_name(list), name, &read(program, list)?);
+            let picture = svg::picture(&list_name(list), name, &read(category, program, list)?);
             let picture = picture.map_err(|error| error.to_string())?;
             fs::write(out, picture).map_err(|error| format!("{out}: {error}"))?;
             println!("wrote {out}");
@@ -68,9 +71,12 @@ fn show(words: &[&str]) -> Result<(), String> {
 }
 
 fn main() {
-    let words: Vec<String> = env::args().skip(1).collect();
-    let words: Vec<&str> = words.iter().map(String::as_str).collect();
-    if let Err(error) = show(&words) {
+    let mut words = words();
+    let shown = take_category(&mut words).and_then(|category| {
+        let words: Vec<&str> = words.iter().map(String::as_str).collect();
+        show(category, &words)
+    });
+    if let Err(error) = shown {
         eprintln!("view: {error}");
         exit(1)
     }

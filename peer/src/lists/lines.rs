@@ -1,8 +1,8 @@
 //! One line more: drafted, written down and given to the unit.
 
 use super::Author;
-use crate::draft::Draft;
-use crate::line::{read, ANALYTES};
+use crate::category::Kind;
+use crate::draft::{Draft, Fields};
 use crate::unit::Event;
 
 impl Author {
@@ -16,24 +16,29 @@ impl Author {
             self.input.extend(line);
             self.input.push(b'\n');
             if !matches!(self.unit.take(line), Event::Refused(_)) {
-                let line = read(line).expect("it was accepted");
-                (self.year, self.month) = (line.year, line.month);
+                (self.year, self.month) = self.unit.last_date();
             }
         }
     }
 
-    pub(super) fn draft(&self, kind: u8, differences: [i32; ANALYTES]) -> Draft {
-        Draft { kind, year: self.year, month: self.month, differences, exact: false }
+    pub(super) fn draft(&self, kind: Kind, differences: Vec<i32>) -> Draft {
+        let (category, year, month) = (self.category(), self.year, self.month);
+        Draft { category, kind, year, month, differences, exact: false }
+    }
+
+    /// A maintenance line with nothing off.
+    pub(super) fn at_the_mean(&mut self) -> Fields {
+        self.draft(Kind::Maintenance, vec![0; self.analytes()]).fields(&mut self.random)
     }
 
     /// A line as it should be, after which one out of order may follow.
-    pub(super) fn proper(&mut self, kind: u8, differences: [i32; ANALYTES]) {
+    pub(super) fn proper(&mut self, kind: Kind, differences: Vec<i32>) {
         let draft = self.draft(kind, differences);
         self.write(draft);
     }
 
     /// The same with exactly these differences.
-    pub(super) fn exact(&mut self, kind: u8, differences: [i32; ANALYTES]) {
+    pub(super) fn exact(&mut self, kind: Kind, differences: Vec<i32>) {
         let draft = Draft { exact: true, ..self.draft(kind, differences) };
         self.write(draft);
     }
@@ -46,7 +51,7 @@ impl Author {
         }
     }
 
-    pub(super) fn differences(&mut self, most: i32) -> [i32; ANALYTES] {
-        std::array::from_fn(|_| self.random.between(-most, most))
+    pub(super) fn differences(&mut self, most: i32) -> Vec<i32> {
+        (0..self.analytes()).map(|_| self.random.between(-most, most)).collect()
     }
 }

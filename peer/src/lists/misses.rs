@@ -1,7 +1,8 @@
 //! Missed lines around 11 months apart.
 
-use super::{Author, MAINTENANCE};
-use crate::line::{Fields, ANALYTES};
+use super::Author;
+use crate::category::Kind;
+use crate::draft::Fields;
 
 impl Author {
     /// Misses some months apart, samples between.
@@ -21,19 +22,19 @@ impl Author {
             let before = self.random.pick(&[0, 0, 1, 6]);
             self.later(before);
             if before > 0 {
-                self.proper(MAINTENANCE, [0; ANALYTES]);
+                self.proper(Kind::Maintenance, vec![0; self.analytes()]);
             }
             let apart = self.random.pick(&[0, 10, 11, 11, 12, 12, 12, 13]);
             self.later((apart - before).max(0));
         }
     }
 
-    fn missed_line(&mut self) -> Fields {
-        let mut fields = self.draft(MAINTENANCE, [0; ANALYTES]).fields(&mut self.random);
+    pub(super) fn missed_line(&mut self) -> Fields {
+        let mut fields = self.at_the_mean();
         match self.random.below(3) {
-            0 => fields.days = 22,
-            1 => fields.days = 255,
-            _ => fields.readings[self.random.below(ANALYTES)] = (2, 0),
+            0 => fields.head().days = 22,
+            1 => fields.head().days = 255,
+            _ => fields.lose(&mut self.random),
         }
         fields
     }
@@ -41,7 +42,7 @@ impl Author {
     /// Refused, so it is no miss. It shows too that a missed line moves the month.
     fn backdated_miss(&mut self) {
         let mut missed = self.missed_line();
-        (missed.year, missed.month) = self.month_before();
+        (missed.head().year, missed.head().month) = self.month_before();
         self.give(&missed.text());
     }
 }

@@ -1,7 +1,7 @@
 //! Samples in bulk: calm ones, ones of any size, and stretches that fill.
 
-use super::{Author, MAINTENANCE};
-use crate::line::ANALYTES;
+use super::Author;
+use crate::category::Kind;
 use crate::unit::LONGEST_STRETCH;
 
 impl Author {
@@ -12,7 +12,7 @@ impl Author {
                 return;
             }
             let differences = self.differences(7);
-            self.proper(MAINTENANCE, differences);
+            self.proper(Kind::Maintenance, differences);
             let months = self.random.pick(&[0, 0, 1, 1, 2]);
             self.later(months);
         }
@@ -24,7 +24,7 @@ impl Author {
             if self.accredited() {
                 let most = self.random.pick(&[20, 27, 40, 1500]);
                 let differences = self.differences(most);
-                self.proper(MAINTENANCE, differences);
+                self.proper(Kind::Maintenance, differences);
             }
         }
         self.later(12);
@@ -39,9 +39,9 @@ impl Author {
         let year = self.year;
         while self.accredited() && self.year == year && self.samples() < calm {
             let differences = self.differences(3);
-            self.proper(MAINTENANCE, differences);
+            self.proper(Kind::Maintenance, differences);
         }
-        let analyte = self.random.below(ANALYTES);
+        let analyte = self.random.below(self.analytes());
         while self.accredited() && self.year == year && self.samples() < full {
             self.off(analyte, 25);
         }
@@ -55,8 +55,8 @@ impl Author {
     fn overfill(&mut self) {
         let first = self.month.max(2) - 1;
         for _ in 0..5 {
-            let mut fields = self.draft(MAINTENANCE, [0; ANALYTES]).fields(&mut self.random);
-            fields.month = self.random.between(i32::from(first), 12) as u8;
+            let mut fields = self.at_the_mean();
+            fields.head().month = self.random.between(i32::from(first), 12) as u8;
             self.give(&fields.text());
         }
         self.misses();

@@ -1,7 +1,8 @@
 //! Study sets that pass or fail: ordinary ones, and ones at the edges of the sums.
 
-use super::{Author, STUDY};
-use crate::line::ANALYTES;
+use super::Author;
+use crate::category::Kind;
+use crate::food_line::ANALYTES;
 use crate::random::Random;
 use crate::study::SET;
 
@@ -28,8 +29,8 @@ impl Author {
     pub(super) fn set(&mut self, rule: impl Fn(&mut Random) -> i32) {
         for _ in self.unit.set_lines()..SET {
             if self.more() {
-                let differences = std::array::from_fn(|_| rule(&mut self.random));
-                self.proper(STUDY, differences);
+                let differences = (0..ANALYTES).map(|_| rule(&mut self.random)).collect();
+                self.proper(Kind::Study, differences);
             }
         }
     }
@@ -72,9 +73,9 @@ impl Author {
     fn exact_set(&mut self, analyte: usize, own: [i32; SET]) {
         for &d in &own[self.unit.set_lines()..] {
             if self.more() {
-                let mut differences = [0; ANALYTES];
+                let mut differences = vec![0; ANALYTES];
                 differences[analyte] = d;
-                self.exact(STUDY, differences);
+                self.exact(Kind::Study, differences);
             }
         }
     }

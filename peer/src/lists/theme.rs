@@ -1,6 +1,7 @@
 //! What a list is about, and by that the episode that comes next.
 
 use super::Author;
+use crate::category::Category;
 use crate::unit::Stage;
 
 /// What a list is about.
@@ -16,10 +17,10 @@ pub(super) enum Theme {
 }
 
 impl Theme {
-    pub(super) fn of(number: u64) -> Theme {
+    pub(super) fn of(category: Category, number: u64) -> Theme {
         match number % 10 {
             2 | 5 | 6 | 8 => Theme::Shown,
-            4 => Theme::Sets,
+            4 if category == Category::Food => Theme::Sets,
             9 => Theme::Full,
             _ => Theme::Anything,
         }
@@ -44,14 +45,18 @@ impl Author {
                 self.most_lines = self.lines;
             }
             (Stage::Accredited, _) => self.maintenance(theme),
-            (Stage::Closed, _) => {
-                self.most_lines = self.most_lines.min(self.lines + 12);
-                self.out_of_order();
-            }
+            (Stage::Closed, _) => self.after_the_end(),
             (_, Theme::Sets) => self.set_at_an_edge(),
             // Some end where it says most.
             (Stage::Probation, _) if self.random.percent(theme.ends()) => {
                 self.most_lines = self.lines;
+            }
+            (stage, _) if self.category().closed(stage) => {
+                if self.random.percent(30) {
+                    let missed = self.missed_line();
+                    self.give(&missed.text());
+                }
+                self.after_the_end();
             }
             (Stage::Probation, Theme::Full) if self.random.percent(30) => {
                 self.set(|random| random.between(-40, 40));
@@ -59,6 +64,12 @@ impl Author {
             (_, Theme::Full) => self.set(|random| random.between(-3, 3)),
             _ => self.any_set(),
         }
+    }
+
+    /// Some lines more, none of which is taken.
+    fn after_the_end(&mut self) {
+        self.most_lines = self.most_lines.min(self.lines + 12);
+        self.out_of_order();
     }
 
     fn maintenance(&mut self, theme: Theme) {

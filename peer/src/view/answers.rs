@@ -1,5 +1,6 @@
 //! The program's output read back: an event for each line, then the status.
 
+use crate::category::MOST_CHARTS;
 use crate::charts::{Over, Run};
 use crate::program::{lines, write_event, write_status};
 use crate::refused::Refusal;
@@ -37,7 +38,7 @@ pub fn parse(output: &[u8], count: usize) -> Option<Answers> {
 fn event(line: &[u8]) -> Option<Event> {
     let number = number(line, 2..4)?;
     Some(match line.get(..2)? {
-        b"00" => Event::Refused(*Refusal::ALL.get((number as usize).checked_sub(1)?)?),
+        b"00" => Event::Refused(refusal(number)?),
         b"01" => Event::Sample,
         b"02" => Event::Missed,
         b"03" => Event::UnderWay(number as u8),
@@ -49,6 +50,10 @@ fn event(line: &[u8]) -> Option<Event> {
     })
 }
 
+fn refusal(number: u32) -> Option<Refusal> {
+    Refusal::ALL.into_iter().find(|refusal| u32::from(refusal.number()) == number)
+}
+
 fn over(line: &[u8]) -> Option<Over> {
     let run = Run {
         first: number(line, 2..6)? as usize,
@@ -56,7 +61,7 @@ fn over(line: &[u8]) -> Option<Over> {
         sum: number(line, 10..18)? as i32,
     };
     let chart = number(line, 0..2)? as usize;
-    (chart < crate::charts::CHARTS).then_some(Over { chart, run })
+    (chart < MOST_CHARTS).then_some(Over { chart, run })
 }
 
 /// The number whose hexadecimal digits stand there.

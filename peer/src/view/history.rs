@@ -1,10 +1,10 @@
 //! What a list of lines came to: admissions, the stretches since each, and what opened probation.
 
-use crate::charts::{Over, CHARTS};
+use crate::category::Category;
+use crate::charts::Over;
 use crate::fast::Unit;
-use crate::line::read;
 use crate::refused::Refusal;
-use crate::unit::{Event, Status};
+use crate::unit::{Event, Stage, Status};
 use crate::view::answers::Answers;
 
 /// A line of the list, numbered from 1, and its date.
@@ -18,7 +18,7 @@ pub struct Mark {
 pub struct Sample {
     pub mark: Mark,
     /// Each chart after this sample.
-    pub values: [i32; CHARTS],
+    pub values: Vec<i32>,
 }
 
 pub struct Stretch {
@@ -35,13 +35,15 @@ pub enum Ground {
 
 /// One admission and all until the next.
 pub struct Admission {
-    pub mark: Mark,
+    /// None for a unit that starts accredited.
+    pub mark: Option<Mark>,
     pub stretches: Vec<Stretch>,
     pub misses: Vec<Mark>,
     pub probation: Option<(Mark, Ground)>,
 }
 
 pub struct History {
+    pub category: Category,
     pub lines: usize,
     /// How often each refusal was given, in the order of the table.
     pub refused: Vec<(Refusal, usize)>,
@@ -68,26 +70,33 @@ impl Stretch {
 /// status after the first lines of the list, so that runs of earlier admissions are its own too.
 /// The peer takes the same lines for the values and must answer alike.
 pub fn history(
+    category: Category,
     list: &[&[u8]],
     answers: &Answers,
     status_after: &mut dyn FnMut(usize) -> Result<Status, String>,
 ) -> Result<History, String> {
-    let mut peer = Unit::new();
+    let mut peer = Unit::new(category);
     let mut admissions = Vec::new();
+    if category.first_stage() == Stage::Accredited {
+        admissions.push(Admission::new(None));
+    }
     for (line, (text, &event)) in (1..).zip(list.iter().zip(&answers.events)) {
         if peer.take(text) != event {
             return Err(format!("line {line}: the program and the peer differ; see peer/check"));
         }
-        let Ok(read) = read(text) else { continue };
-        let mark = Mark { line, year: read.year, month: read.month };
+        if matches!(event, Event::Refused(_)) {
+            continue;
+        }
+        let (year, month) = peer.last_date();
+        let mark = Mark { line, year, month };
         if event == Event::Passed {
-            admissions.push(Admission::new(mark));
+            admissions.push(Admission::new(Some(mark)));
         }
         let Some(admission) = admissions.last_mut() else { continue };
         match event {
-            Event::Sample => admission.add(Sample { mark, values: *peer.values() }),
+            Event::Sample => admission.add(Sample { mark, values: peer.values().to_vec() }),
             Event::ProbationByCharts => {
-                admission.add(Sample { mark, values: *peer.values() });
+                admission.add(Sample { mark, values: peer.values().to_vec() });
                 admission.end(mark, status_after(line)?);
             }
             Event::Missed => admission.misses.push(mark),
@@ -102,11 +111,11 @@ pub fn history(
         return Err("status: the program and the peer differ; see peer/check".into());
     }
     let (lines, status) = (list.len(), answers.status.clone());
-    Ok(History { lines, refused: refused(&answers.events), admissions, status })
+    Ok(History { category, lines, refused: refused(&answers.events), admissions, status })
 }
 
 impl Admission {
-    fn new(mark: Mark) -> Admission {
+    fn new(mark: Option<Mark>) -> Admission {
         Admission { mark, stretches: Vec::new(), misses: Vec::new(), probation: None }
     }
 
@@ -135,16 +144,22 @@ fn refused(events: &[Event]) -> Vec<(Refusal, usize)> {
 #[cfg(test)]
 pub mod tests {
     use super::*;
-    use crate::charts::{limit, Run};
+    use crate::category::MOST_CHARTS;
+    use crate::charts::{Run, FOOD};
     use crate::program::{lines, transcript};
     use crate::view::answers::parse;
 
-    /// What a list came to, with the peer as the program.
+    /// What a food list came to, with the peer as the program.
     pub fn of_case(input: &[u8]) -> History {
+        of_case_in(Category::Food, input)
+    }
+
+    pub fn of_case_in(category: Category, input: &[u8]) -> History {
         let list: Vec<&[u8]> = lines(input).collect();
-        let answers = |count: usize| parse(&transcript(&list[..count].join(&b'\n')), count);
+        let printed = |count: usize| transcript(category, &list[..count].join(&b'\n'));
+        let answers = |count: usize| parse(&printed(count), count);
         let all = answers(list.len()).unwrap();
-        history(&list, &all, &mut |count| Ok(answers(count).unwrap().status)).unwrap()
+        history(category, &list, &all, &mut |count| Ok(answers(count).unwrap().status)).unwrap()
     }
 
     #[test]
@@ -155,9 +170,9 @@ pub mod tests {
         assert_eq!((stretch.year(), stretch.samples.len()), (2013, 12));
         assert_eq!(stretch.run(8), Some(Run { first: 1, last: 12, sum: 53 }));
         assert_eq!(stretch.values(8).last(), Some(&53));
-        assert!((0..CHARTS).all(|chart| {
+        assert!((0..MOST_CHARTS).all(|chart| {
             (stretch.run(chart).is_some())
-                == (*stretch.values(chart).last().unwrap() > limit(chart))
+                == (*stretch.values(chart).last().unwrap() > FOOD.limit(chart))
         }));
     }
 
@@ -170,6 +185,21 @@ pub mod tests {
         assert_eq!(second.probation.map(|(_, ground)| ground), Some(Ground::Misses));
         assert_eq!(second.stretches[0].samples.len(), 1);
         assert!(history.status.over.is_empty());
+    }
+
+    #[test]
+    fn a_residue_unit_is_accredited_from_the_start() {
+        let input = include_bytes!("../../../crates/case_residue_charts/stdin");
+        let history = of_case_in(Category::tested_residue(), input);
+        let [admission] = &history.admissions[..] else { panic!("one admission") };
+        assert_eq!(admission.mark, None);
+        let years: Vec<u16> = admission.stretches.iter().map(Stretch::year).collect();
+        assert_eq!(years, [2012, 2013, 2014]);
+        let last = &admission.stretches[2];
+        assert_eq!(last.samples[0].values.len(), 4);
+        assert_eq!(last.run(0), Some(Run { first: 4, last: 10, sum: 49 }));
+        assert_eq!(last.run(3), Some(Run { first: 5, last: 10, sum: 12_000 }));
+        assert_eq!((last.run(1), last.run(2)), (None, None));
     }
 
     #[test]

@@ -3,7 +3,8 @@
 
 use std::fmt::{self, Write};
 
-use crate::charts::{limit, Run, CHARTS, KINDS};
+use crate::category::Category;
+use crate::charts::{Run, KINDS};
 use crate::view::history::{History, Stretch};
 use crate::view::plot::{drawn, group, Plot};
 use crate::view::words;
@@ -43,8 +44,8 @@ pub fn picture(name: &str, program: &str, history: &History) -> Result<String, f
         for stretch in &admission.stretches {
             write_text(&mut body, (MARGIN, y + 8.0), "h3", &stretch_title(stretch))?;
             y += LINE;
-            panels(&mut body, y, stretch)?;
-            y += PANEL.1 * (CHARTS / KINDS) as f64 + LINE;
+            panels(&mut body, y, history.category, stretch)?;
+            y += PANEL.1 * history.category.analytes() as f64 + LINE;
         }
     }
     let height = y + MARGIN;
@@ -67,7 +68,7 @@ fn heading(
     program: &str,
     history: &History,
 ) -> Result<f64, fmt::Error> {
-    let mut said = vec![format!("Charts of {name}"), words::status(&history.status)];
+    let mut said = vec![words::title(name, history), words::status(&history.status)];
     said.push(words::lines_taken(history));
     said.extend(words::sources(program));
     let y = paragraphs(out, MARGIN + 16.0, &said, "h1")? + 8.0;
@@ -115,33 +116,41 @@ fn stretch_title(stretch: &Stretch) -> String {
     }
 }
 
-fn panels(out: &mut String, top: f64, stretch: &Stretch) -> fmt::Result {
-    for chart in 0..CHARTS {
+fn panels(out: &mut String, top: f64, category: Category, stretch: &Stretch) -> fmt::Result {
+    for chart in 0..category.charts() {
         let column = (chart % KINDS) as f64;
         let row = (chart / KINDS) as f64;
-        panel(out, (MARGIN + column * PANEL.0, top + row * PANEL.1), stretch, chart)?;
+        let corner = (MARGIN + column * PANEL.0, top + row * PANEL.1);
+        panel(out, corner, category, stretch, chart)?;
     }
     Ok(())
 }
 
-fn panel(out: &mut String, corner: (f64, f64), stretch: &Stretch, chart: usize) -> fmt::Result {
+fn panel(
+    out: &mut String,
+    corner: (f64, f64),
+    category: Category,
+    stretch: &Stretch,
+    chart: usize,
+) -> fmt::Result {
     let values = stretch.values(chart);
+    let limit = category.turns().limit(chart);
     let size = (PANEL.0 - BEFORE.0 - AFTER.0, PANEL.1 - BEFORE.1 - AFTER.1);
     let inner = (corner.0 + BEFORE.0, corner.1 + BEFORE.1);
-    let plot = Plot::new(inner, size, &values, limit(chart));
+    let plot = Plot::new(inner, size, &values, limit);
     let run = stretch.run(chart);
-    write_text(out, (plot.left, plot.top - 22.0), "bold", &words::chart(chart))?;
+    write_text(out, (plot.left, plot.top - 22.0), "bold", &words::chart(category, chart))?;
     let class = if run.is_some() { "bold" } else { "" };
     write_text(out, (plot.left, plot.top - 7.0), class, &words::outcome(stretch, chart))?;
     if let Some(run) = run {
         band(out, &plot, run)?;
     }
     axes(out, &plot, chart)?;
-    let limit_y = plot.y(limit(chart));
+    let limit_y = plot.y(limit);
     write_line(out, "zero", (plot.left, plot.y(0)), (plot.right(), plot.y(0)))?;
     write_line(out, "limit", (plot.left, limit_y), (plot.right(), limit_y))?;
     write_text(out, (plot.right() + 5.0, limit_y - 2.0), "", "limit")?;
-    write_text(out, (plot.right() + 5.0, limit_y + 11.0), "", &limit(chart).to_string())?;
+    write_text(out, (plot.right() + 5.0, limit_y + 11.0), "", &limit.to_string())?;
     curve(out, &plot, &values, run)?;
     let frame = if run.is_some() { "frame over" } else { "frame" };
     write_rect(out, frame, (plot.left, plot.top), (plot.width, plot.height))
@@ -231,7 +240,7 @@ fn write_text(out: &mut String, (x, y): (f64, f64), class: &str, text: &str) -> 
 #[cfg(test)]
 mod tests {
     use super::*;
-    use crate::view::history::tests::of_case;
+    use crate::view::history::tests::{of_case, of_case_in};
 
     fn of(name: &str, input: &[u8]) -> String {
         picture(name, "the peer", &of_case(input)).unwrap()
@@ -246,6 +255,18 @@ mod tests {
         let (points, _) = run.split_once('"').unwrap();
         assert_eq!(points.split_whitespace().count(), 3);
         assert!(picture.contains("OVER: run 5 to 7, sum 53"));
+    }
+
+    #[test]
+    fn a_residue_picture_has_four_charts_a_year() {
+        let input = include_bytes!("../../../crates/check_residue/stdin");
+        let history = of_case_in(Category::tested_residue(), input);
+        let picture = picture("low", "the peer", &history).unwrap();
+        assert!(picture.contains("Charts of low, residue compound 4 (DDT)"));
+        assert!(picture.contains("Accredited from the start"));
+        assert_eq!(picture.matches(">sample number<").count(), 4);
+        assert!(picture.contains("OVER: run 1 to 4, sum 52"));
+        assert!(picture.contains(">DDT D (03)<"));
     }
 
     #[test]

@@ -1,6 +1,7 @@
 //! The charts as text, two panels beside each other in 80 columns.
 
-use crate::charts::{limit, Run, CHARTS};
+use crate::category::Category;
+use crate::charts::Run;
 use crate::view::history::{History, Stretch};
 use crate::view::plot::sample_ticks;
 use crate::view::words;
@@ -16,7 +17,8 @@ const ABOVE: usize = 2;
 
 /// The whole text.
 pub fn page(name: &str, program: &str, history: &History) -> String {
-    let mut lines = vec![format!("Charts of {name}"), words::status(&history.status)];
+    let category = history.category;
+    let mut lines = vec![words::title(name, history), words::status(&history.status)];
     lines.push(words::lines_taken(history));
     lines.extend(words::sources(program));
     lines.push("Marks: o value after a sample, # the run shown, - limit, . 0.".into());
@@ -25,9 +27,10 @@ pub fn page(name: &str, program: &str, history: &History) -> String {
         lines.extend(words::admission(number, admission));
         for stretch in &admission.stretches {
             lines.extend([String::new(), stretch_title(stretch)]);
-            for chart in (0..CHARTS).step_by(2) {
+            for chart in (0..category.charts()).step_by(2) {
+                let [left, right] = [chart, chart + 1].map(|chart| panel(category, stretch, chart));
                 lines.push(String::new());
-                lines.extend(beside(panel(stretch, chart), panel(stretch, chart + 1)));
+                lines.extend(beside(left, right));
             }
         }
     }
@@ -69,10 +72,10 @@ fn beside(left: Vec<String>, right: Vec<String>) -> impl Iterator<Item = String>
     left.into_iter().zip(right).map(|(left, right)| format!("{left:PANEL$}  {right}"))
 }
 
-fn panel(stretch: &Stretch, chart: usize) -> Vec<String> {
+fn panel(category: Category, stretch: &Stretch, chart: usize) -> Vec<String> {
     let values = stretch.values(chart);
-    let grid = Grid::new(&values, limit(chart));
-    let title = format!("{}, value in {}", words::chart(chart), words::unit(chart));
+    let grid = Grid::new(&values, category.turns().limit(chart));
+    let title = format!("{}, value in {}", words::chart(category, chart), words::unit(chart));
     let mut lines = vec![title, words::outcome(stretch, chart)];
     let cells = grid.cells(&values, stretch.run(chart));
     for (row, cells) in cells.iter().enumerate().rev() {
@@ -154,7 +157,7 @@ mod tests {
 
     #[test]
     fn no_value_is_on_the_wrong_side_of_the_limit() {
-        for (limit, lowest) in [(52, -20), (52, 0), (43, -4), (10_000, -250)] {
+        for (limit, lowest) in [(52, -20), (52, 0), (48, -20), (43, -4), (10_000, -250)] {
             let grid = Grid::new(&[lowest], limit);
             for value in lowest..2 * limit {
                 assert_eq!(grid.row(value).cmp(&BELOW), value.cmp(&limit), "{value} of {limit}");

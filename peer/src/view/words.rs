@@ -1,5 +1,6 @@
 //! The words that picture and text share.
 
+use crate::category::Category;
 use crate::charts::KINDS;
 use crate::program::{lines, write_status};
 use crate::unit::{Stage, Status};
@@ -22,9 +23,23 @@ const MONTHS: [&str; 12] = [
     "December",
 ];
 
-/// Analyte, letter, and the chart's number as the status prints it.
-pub fn chart(chart: usize) -> String {
-    format!("{} {} ({chart:02x})", ANALYTES[chart / KINDS], LETTERS[chart % KINDS])
+/// What the page shows.
+pub fn title(name: &str, history: &History) -> String {
+    match history.category {
+        Category::Food => format!("Charts of {name}"),
+        Category::Residue(own) => {
+            format!("Charts of {name}, residue compound {} ({})", own.number(), own.name())
+        }
+    }
+}
+
+/// Analyte or compound, letter, and the chart's number as the status prints it.
+pub fn chart(category: Category, chart: usize) -> String {
+    let analyte = match category {
+        Category::Food => ANALYTES[chart / KINDS],
+        Category::Residue(own) => own.name(),
+    };
+    format!("{analyte} {} ({chart:02x})", LETTERS[chart % KINDS])
 }
 
 /// What a chart's value is counted in.
@@ -72,8 +87,10 @@ pub fn stretch(stretch: &Stretch) -> String {
 
 /// Number of the admission, its date, and what came of it.
 pub fn admission(number: usize, admission: &Admission) -> Vec<String> {
-    let mark = admission.mark;
-    let title = format!("Admission {number}: line {}, {}", mark.line, date(mark));
+    let title = match admission.mark {
+        Some(mark) => format!("Admission {number}: line {}, {}", mark.line, date(mark)),
+        None => "Accredited from the start".into(),
+    };
     let probation = match admission.probation {
         None => "No probation.".into(),
         Some((mark, Ground::Charts)) => {

@@ -1,13 +1,17 @@
 //! Builds a list of lines together with the output that is worked out for it by hand.
 
+use peer::category::Category;
 use peer::difference::{difference, value, Derived};
-use peer::draft::percent;
-use peer::line::{Fields, Product, ANALYTES, FAT, MOISTURE, PROTEIN, SALT};
+use peer::draft;
+use peer::draft::food::percent;
+use peer::food_line::{Fields, Product, ANALYTES, FAT, MOISTURE, PROTEIN, SALT};
+use peer::head::Head;
 
 use crate::plain::FIELDS;
 
 #[derive(Clone)]
 pub struct Case {
+    pub category: Category,
     pub name: &'static str,
     pub shows: &'static str,
     pub input: Vec<u8>,
@@ -48,16 +52,18 @@ impl Plain {
             let (mean, d) = (FIELDS.means[analyte], self.differences[analyte]);
             (0, percent(reading_with(analyte, mean, d)))
         });
-        Fields { year, month, readings, ..FIELDS }
+        Fields { head: Head { year, month, ..FIELDS.head }, readings, ..FIELDS }
     }
 
     pub fn sample(self) -> Fields {
-        Fields { kind: 1, ..self.study() }
+        let study = self.study();
+        beginning(Head { kind: 1, ..study.head }, study)
     }
 
     /// Late by a day.
     pub fn late(self) -> Fields {
-        Fields { days: 22, ..self.sample() }
+        let sample = self.sample();
+        beginning(Head { days: 22, ..sample.head }, sample)
     }
 
     /// Salt lost.
@@ -66,6 +72,11 @@ impl Plain {
         fields.readings[SALT] = (2, 0);
         fields
     }
+}
+
+/// The line with another beginning.
+pub fn beginning(head: Head, fields: Fields) -> Fields {
+    Fields { head, ..fields }
 }
 
 /// The reading nearest to the mean whose difference is d.
@@ -81,8 +92,15 @@ fn reading_with(analyte: usize, mean: u16, d: i32) -> u16 {
 }
 
 impl Case {
+    /// A food list.
     pub fn new(name: &'static str, shows: &'static str) -> Case {
-        Case { name, shows, input: Vec::new(), output: String::new() }
+        let category = Category::Food;
+        Case { category, name, shows, input: Vec::new(), output: String::new() }
+    }
+
+    /// A list for the tested residue program.
+    pub fn residue(name: &'static str, shows: &'static str) -> Case {
+        Case { category: Category::tested_residue(), ..Case::new(name, shows) }
     }
 
     /// One line and its event.
@@ -92,11 +110,11 @@ impl Case {
         self.expect(event)
     }
 
-    pub fn line(self, fields: Fields, event: &str) -> Case {
-        self.text(&fields.text(), event)
+    pub fn line(self, fields: impl Into<draft::Fields>, event: &str) -> Case {
+        self.text(&fields.into().text(), event)
     }
 
-    pub fn lines(self, count: usize, fields: Fields, event: &str) -> Case {
+    pub fn lines(self, count: usize, fields: impl Into<draft::Fields> + Copy, event: &str) -> Case {
         (0..count).fold(self, |case, _| case.line(fields, event))
     }
 

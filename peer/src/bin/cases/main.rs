@@ -2,10 +2,12 @@
 //! holding each against what it must show. With `--check` it compares the files instead of writing
 //! them.
 
-mod lines;
+mod food_lines;
 mod list;
 mod place;
 mod plain;
+mod residue_lines;
+mod rows;
 mod standard;
 mod stories;
 
@@ -13,14 +15,17 @@ use std::fmt::Write as _;
 use std::path::Path;
 use std::{fs, io};
 
+use peer::category::Category;
 use peer::charts::highest_run;
-use peer::line::{encode, read};
-use peer::program::{lines as split, stream, transcript};
+use peer::digits::hexadecimal;
+use peer::program::{lines as split, read_back, stream, transcript};
 use peer::single::standardize;
 use peer::unit::Unit;
 
 use list::Case;
 use place::paths;
+use rows::Row;
+use stories::{Hidden, HIDDEN};
 
 /// A file, by its path from the repository's root.
 struct File {
@@ -34,45 +39,42 @@ fn list_files(name: &str, input: Vec<u8>, output: Vec<u8>) -> [File; 2] {
 }
 
 fn program_files(case: &Case) -> [File; 2] {
-    let Case { name, input, output, .. } = case;
-    assert_eq!(String::from_utf8(transcript(input)).as_ref(), Ok(output), "{name}, by search");
+    let Case { category, name, input, output, .. } = case;
+    let slow = transcript(*category, input);
+    assert_eq!(String::from_utf8(slow).as_ref(), Ok(output), "{name}, by search");
     let mut fast = Vec::new();
-    stream(&mut &input[..], &mut fast).expect("memory takes all");
+    stream(*category, &mut &input[..], &mut fast).expect("memory takes all");
     assert_eq!(String::from_utf8(fast).as_ref(), Ok(output), "{name}, in one pass");
     list_files(name, input.clone(), output.clone().into())
 }
 
-/// The program shows no chart that is not over, so this one is held against the charts.
-fn assert_fat_near_limit(case: &Case) {
-    let mut unit = Unit::new();
-    for line in split(&case.input) {
-        unit.take(line);
+/// The program shows no chart that is not over, so these are held against the charts.
+fn assert_hidden(case: &Case) {
+    for Hidden { lines, chart, value, .. } in HIDDEN.iter().filter(|own| own.list == case.name) {
+        let mut unit = Unit::new(case.category);
+        for line in split(&case.input).take(*lines) {
+            unit.take(line);
+        }
+        let own: Vec<i32> = unit.stretch().iter().map(|sample| sample[*chart]).collect();
+        let highest = highest_run(&own).map(|run| run.sum);
+        assert_eq!(highest, Some(*value), "{}, chart {chart} after {lines} lines", case.name);
     }
-    let fat_p: Vec<i32> = unit.stretch().iter().map(|sample| sample[8]).collect();
-    let value = |samples: usize| highest_run(&fat_p[..samples]).map(|run| run.sum);
-    assert_eq!((value(11), value(12)), (Some(52), Some(51)), "{}", case.name);
 }
 
-fn lines_files(rows: &[lines::Row]) -> [File; 2] {
+fn lines_files(name: &str, category: Category, rows: &[Row]) -> [File; 2] {
     let (mut input, mut output) = (Vec::new(), Vec::new());
-    for row in rows {
-        input.extend(&row.text);
-        input.push(b'\n');
-        let number = match read(&row.text) {
-            Ok(line) => {
-                assert_eq!(line.write(), row.text, "{}", row.shows);
-                output.extend(line.write());
-                0
-            }
-            Err(refusal) => {
-                encode(&[refusal.number()], &mut output);
-                refusal.number()
-            }
+    for Row { text, shows, refusal } in rows {
+        let answer = match refusal {
+            0 => text.clone(),
+            _ => hexadecimal(*refusal).to_vec(),
         };
-        output.push(b'\n');
-        assert_eq!(number, row.refusal, "{}", row.shows);
+        assert_eq!(read_back(category, text), answer, "{shows}");
+        for (whole, line) in [(&mut input, text), (&mut output, &answer)] {
+            whole.extend(line);
+            whole.push(b'\n');
+        }
     }
-    list_files("lines", input, output)
+    list_files(name, input, output)
 }
 
 fn standard_files(rows: &[standard::Row]) -> [File; 2] {
@@ -86,7 +88,17 @@ fn standard_files(rows: &[standard::Row]) -> [File; 2] {
     list_files("standard", input.into(), output.into())
 }
 
-fn readme(cases: &[Case], lines: &[lines::Row], standard: &[standard::Row]) -> String {
+fn lines_table(text: &mut String, rows: &[Row]) {
+    for (number, row) in (1..).zip(rows) {
+        let outcome = match row.refusal {
+            0 => "written back".to_string(),
+            refusal => format!("{refusal:02x}"),
+        };
+        let _ = writeln!(text, "| {number} | {outcome} | {} |", row.shows.replace('|', "\\|"));
+    }
+}
+
+fn readme(cases: &[Case], food: &[Row], residue: &[Row], standard: &[standard::Row]) -> String {
     let mut text = String::from(README_START);
     for Case { name, shows, output, .. } in cases {
         let status = output.lines().find(|line| line.len() == 12).unwrap_or_default();
@@ -94,13 +106,9 @@ fn readme(cases: &[Case], lines: &[lines::Row], standard: &[standard::Row]) -> S
         let _ = writeln!(text, "| {name} | `{list}` | {status} | {shows} |");
     }
     text += README_LINES;
-    for (number, row) in (1..).zip(lines) {
-        let outcome = match row.refusal {
-            0 => "written back".to_string(),
-            refusal => format!("{refusal:02}"),
-        };
-        let _ = writeln!(text, "| {number} | {outcome} | {} |", row.shows.replace('|', "\\|"));
-    }
+    lines_table(&mut text, food);
+    text += README_RESIDUE_LINES;
+    lines_table(&mut text, residue);
     text += README_STANDARD;
     for (number, row) in (1..).zip(standard) {
         let answer = standardize(row.text.as_bytes());
@@ -119,16 +127,28 @@ its list in `src/bin/cases` and held against both modes of the peer, but for the
 `standard` for which no short sum does: those are the peer's exact integers alone. With
 `-- --check` it compares the files instead of writing them.
 
-## For the program
+## For the programs
+
+The lists whose names begin with `residue` are for `check_residue`, the others for `check_sample`.
 
 | list | file | status line | what it shows |
 |---|---|---|---|
 ";
 
 const README_LINES: &str = "
-## lines: reading alone
+## lines: reading a food line alone
 
 In `crates/case_food_line`. For each line the number of its refusal, 01 to 07, or the line written back.
+
+| line | outcome | what it shows |
+|---|---|---|
+";
+
+const README_RESIDUE_LINES: &str = "
+## residue-lines: reading a residue line alone
+
+In `crates/case_residue_line`, for compound 4. The refusals here are 01 to 04, 0e (14), 0f (15) and
+07, and looked for in this order.
 
 | line | outcome | what it shows |
 |---|---|---|
@@ -147,14 +167,14 @@ has an analyte above 3, for which document 01 has no word.
 
 fn main() -> io::Result<()> {
     let cases = stories::cases();
-    let (lines, standard) = (lines::rows(), standard::rows());
+    let (food, residue) = (food_lines::rows(), residue_lines::rows());
+    let standard = standard::rows();
     let mut files: Vec<File> = cases.iter().flat_map(program_files).collect();
-    for case in cases.iter().filter(|case| case.name == "fat-near-limit") {
-        assert_fat_near_limit(case);
-    }
-    files.extend(lines_files(&lines));
+    cases.iter().for_each(assert_hidden);
+    files.extend(lines_files("lines", Category::Food, &food));
+    files.extend(lines_files("residue-lines", Category::tested_residue(), &residue));
     files.extend(standard_files(&standard));
-    let readme = readme(&cases, &lines, &standard).into();
+    let readme = readme(&cases, &food, &residue, &standard).into();
     files.push(File { path: "peer/cases/README.md".to_string(), bytes: readme });
 
     let root = Path::new(env!("CARGO_MANIFEST_DIR")).join("..");

@@ -4,7 +4,9 @@
 fn crate_of(list: &str) -> Option<String> {
     match list {
         "two-lines" => Some("check_sample".to_string()),
+        "residue" => Some("check_residue".to_string()),
         "lines" => Some("case_food_line".to_string()),
+        "residue-lines" => Some("case_residue_line".to_string()),
         "fat-over-limit"
         | "large-discrepancy"
         | "readmitted"

@@ -1,6 +1,6 @@
 //! The rows of `standard`: each with what it shows.
 
-use peer::line::{FAT, MOISTURE, PROTEIN, SALT};
+use peer::food_line::{FAT, MOISTURE, PROTEIN, SALT};
 
 pub struct Row {
     pub text: String,

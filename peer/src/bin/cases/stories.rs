@@ -4,6 +4,7 @@ mod charts;
 mod inputs;
 mod misses;
 mod refusals;
+mod residue;
 mod sets;
 
 use crate::list::Case;
@@ -33,5 +34,25 @@ pub fn cases() -> Vec<Case> {
         inputs::unended(),
         inputs::lengths(),
         inputs::bytes(),
+        residue::low_results(),
+        residue::residue_charts(),
+        residue::residue_misses(),
     ]
 }
+
+/// A chart's value after the first lines of a list, where the program does not show it.
+pub struct Hidden {
+    pub list: &'static str,
+    pub lines: usize,
+    pub chart: usize,
+    pub value: i32,
+}
+
+pub const HIDDEN: [Hidden; 6] = [
+    Hidden { list: "fat-near-limit", lines: 36 + 11, chart: 8, value: 52 },
+    Hidden { list: "fat-near-limit", lines: 36 + 12, chart: 8, value: 51 },
+    Hidden { list: "residue-charts", lines: 3, chart: 0, value: 48 },
+    Hidden { list: "residue-charts", lines: 3 + 32, chart: 0, value: 48 },
+    Hidden { list: "residue-charts", lines: 3 + 32 + 3, chart: 2, value: 43 },
+    Hidden { list: "residue-charts", lines: 3 + 32 + 4 + 1, chart: 0, value: -20 },
+];

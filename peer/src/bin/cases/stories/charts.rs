@@ -1,6 +1,6 @@
 //! Lists whose charts come to their limits, go over them and start anew.
 
-use peer::line::SALT;
+use peer::food_line::SALT;
 
 use crate::list::{at, Case};
 

@@ -1,8 +1,9 @@
 //! Lists with every refusal, and a stretch that is full.
 
-use peer::line::{Fields, PROTEIN, SALT};
+use peer::food_line::{Fields, PROTEIN, SALT};
+use peer::head::Head;
 
-use crate::list::{at, Case};
+use crate::list::{at, beginning, Case};
 
 /// Rows 1 to 7 and 9 to 11, each by a line with a fat reading that would fail the set if it
 /// counted; those of rows 9 and 11 have a later month that would make the next line backdated.
@@ -13,17 +14,18 @@ fn refused_in_a_set() -> [(Vec<u8>, &'static str); 10] {
     let (mut mean, mut reading) = (wrong, wrong);
     mean.means[PROTEIN] = 4;
     reading.readings[SALT].1 = 0x8000_0000;
+    let with = |head: Head| beginning(head, wrong).text();
     [
         (wrong.text()[..67].to_vec(), "0001"),
         (capital, "0002"),
-        (Fields { kind: 3, ..wrong }.text(), "0003"),
-        (Fields { month: 13, ..wrong }.text(), "0004"),
+        (with(Head { kind: 3, ..wrong.head }), "0003"),
+        (with(Head { month: 13, ..wrong.head }), "0004"),
         (Fields { product: 0x80, ..wrong }.text(), "0005"),
         (mean.text(), "0006"),
         (reading.text(), "0007"),
         (at(2012, 12).fat(500).sample().text(), "0009"),
         (at(2012, 2).fat(500).study().text(), "000a"),
-        (Fields { month: 12, days: 22, ..wrong }.text(), "000b"),
+        (with(Head { month: 12, days: 22, ..wrong.head }), "000b"),
     ]
 }
 

@@ -1,8 +1,8 @@
 //! Lists with sets at the edges of passing, and units that are closed.
 
-use peer::line::Fields;
+use peer::head::Head;
 
-use crate::list::{at, Case};
+use crate::list::{at, beginning, Case};
 
 pub fn set_mean_edge() -> Case {
     let case = Case::new(
@@ -44,15 +44,16 @@ pub fn both_sets_failed() -> Case {
          (12 and -12 on fat). Closed: every line that reads is refused 8, whatever else is wrong \
          with it; one that does not read gets its own number.",
     );
+    let study = at(2012, 5).study();
     let spread = |place: usize| if place.is_multiple_of(2) { 12 } else { -12 };
     case.set(|_| at(2012, 3).moisture(8).study(), "0500")
         .set(|place| at(2012, 4).fat(spread(place)).study(), "0500")
-        .line(at(2012, 5).study(), "0008")
+        .line(study, "0008")
         .line(at(2012, 5).sample(), "0008")
         .line(at(2012, 1).study(), "0008")
-        .line(Fields { days: 22, ..at(2012, 5).study() }, "0008")
+        .line(beginning(Head { days: 22, ..study.head }, study), "0008")
         .line(at(2012, 5).lost(), "0008")
-        .line(Fields { month: 13, ..at(2012, 5).study() }, "0004")
+        .line(beginning(Head { month: 13, ..study.head }, study), "0004")
         .line(at(2013, 5).study(), "0008")
         .expect("040000000000")
 }

@@ -1,5 +1,7 @@
 //! "The line": 68 digits to a record and back, and a percent's hundredths.
 
+use crate::digits::{decode, encode};
+use crate::head::Head;
 use crate::refused::Refusal;
 
 pub const DIGITS: usize = 68;
@@ -18,11 +20,9 @@ const WHOLE: u16 = 10_000;
 /// and infinities and NaNs lie above all numbers.
 const WHOLE_BINARY32: u32 = 0x42c8_0000;
 
-#[derive(Clone, Copy, Debug, PartialEq, Eq)]
-pub enum Kind {
-    Maintenance,
-    Study,
-}
+/// Kinds.
+pub const MAINTENANCE: u8 = 1;
+pub const STUDY: u8 = 2;
 
 #[derive(Clone, Copy, Debug, PartialEq, Eq)]
 pub enum Reading {
@@ -46,10 +46,7 @@ pub struct Product(u8);
 
 #[derive(Clone, Copy, Debug, PartialEq, Eq)]
 pub struct Line {
-    pub kind: Kind,
-    pub year: u16,
-    pub month: u8,
-    pub days: u8,
+    pub head: Head,
     pub product: Product,
     pub means: [u16; ANALYTES],
     pub readings: [Reading; ANALYTES],
@@ -137,53 +134,10 @@ fn hundredths(bits: u32) -> u16 {
     ((hundredfold + half) >> scale) as u16
 }
 
-const NOT_A_DIGIT: u8 = 0xff;
-
-fn digit_value(byte: u8) -> u8 {
-    let (digit, letter) = (byte.wrapping_sub(b'0'), byte.wrapping_sub(b'a'));
-    if digit < 10 {
-        digit
-    } else if letter < 6 {
-        letter + 10
-    } else {
-        NOT_A_DIGIT
-    }
-}
-
-fn decode(digits: &[u8; DIGITS]) -> Result<[u8; BYTES], Refusal> {
-    let mut values = [0; DIGITS];
-    let mut seen = 0;
-    for (value, &digit) in values.iter_mut().zip(digits) {
-        *value = digit_value(digit);
-        seen |= *value;
-    }
-    if seen == NOT_A_DIGIT {
-        return Err(Refusal::Digit);
-    }
-    let mut bytes = [0; BYTES];
-    for (byte, pair) in bytes.iter_mut().zip(values.chunks_exact(2)) {
-        *byte = pair[0] << 4 | pair[1];
-    }
-    Ok(bytes)
-}
-
-pub fn hexadecimal(byte: u8) -> [u8; 2] {
-    const DIGITS: &[u8; 16] = b"0123456789abcdef";
-    [DIGITS[usize::from(byte >> 4)], DIGITS[usize::from(byte & 15)]]
-}
-
-/// Appends the bytes as lowercase hexadecimal digits.
-pub fn encode(bytes: &[u8], text: &mut Vec<u8>) {
-    text.extend(bytes.iter().flat_map(|&byte| hexadecimal(byte)));
-}
-
 /// The fields of a line before any but its digits has been checked.
 #[derive(Clone, Copy, Debug, PartialEq, Eq)]
 pub struct Fields {
-    pub kind: u8,
-    pub year: u16,
-    pub month: u8,
-    pub days: u8,
+    pub head: Head,
     pub product: u8,
     pub means: [u16; ANALYTES],
     /// Tag and four bytes.
@@ -198,10 +152,7 @@ impl Fields {
             (bytes[at], u32::from_be_bytes(bits))
         };
         Fields {
-            kind: bytes[0],
-            year: pair(1),
-            month: bytes[3],
-            days: bytes[4],
+            head: Head::new([bytes[0], bytes[1], bytes[2], bytes[3], bytes[4]]),
             product: bytes[5],
             means: [pair(6), pair(8), pair(10), pair(12)],
             readings: [reading(14), reading(19), reading(24), reading(29)],
@@ -211,9 +162,8 @@ impl Fields {
     /// The 68 digits of these fields.
     pub fn text(&self) -> Vec<u8> {
         let mut text = Vec::with_capacity(DIGITS);
-        encode(&[self.kind], &mut text);
-        encode(&self.year.to_be_bytes(), &mut text);
-        encode(&[self.month, self.days, self.product], &mut text);
+        encode(&self.head.bytes(), &mut text);
+        encode(&[self.product], &mut text);
         for mean in self.means {
             encode(&mean.to_be_bytes(), &mut text);
         }
@@ -227,17 +177,12 @@ impl Fields {
 
 /// Rows 1 to 7 of "Refused", in their order.
 pub fn read(text: &[u8]) -> Result<Line, Refusal> {
-    let digits = text.try_into().map_err(|_| Refusal::Length)?;
-    let fields = Fields::new(&decode(digits)?);
-    let kind = match fields.kind {
-        1 => Kind::Maintenance,
-        2 => Kind::Study,
-        _ => return Err(Refusal::Kind),
-    };
-    let Fields { year, month, days, means, .. } = fields;
-    if !(2000..=2099).contains(&year) || !(1..=12).contains(&month) {
-        return Err(Refusal::Date);
+    let fields = Fields::new(&decode::<DIGITS, BYTES>(text)?);
+    let Fields { head, means, .. } = fields;
+    if ![MAINTENANCE, STUDY].contains(&head.kind) {
+        return Err(Refusal::Kind);
     }
+    head.check_date()?;
     let product = Product::new(fields.product)?;
     if !(0..ANALYTES).all(|analyte| mean_fits(product, analyte, means[analyte])) {
         return Err(Refusal::Mean);
@@ -246,29 +191,20 @@ pub fn read(text: &[u8]) -> Result<Line, Refusal> {
     for (reading, (tag, bits)) in readings.iter_mut().zip(fields.readings) {
         *reading = Reading::new(tag, bits)?;
     }
-    Ok(Line { kind, year, month, days, product, means, readings })
+    Ok(Line { head, product, means, readings })
 }
 
 impl Line {
     /// The 68 digits this line was read from.
     pub fn write(&self) -> Vec<u8> {
-        let Line { year, month, days, means, .. } = *self;
-        let kind = match self.kind {
-            Kind::Maintenance => 1,
-            Kind::Study => 2,
-        };
-        let product = self.product.0;
+        let Line { head, means, .. } = *self;
         let readings = self.readings.map(Reading::bytes);
-        Fields { kind, year, month, days, product, means, readings }.text()
-    }
-
-    pub fn month_number(&self) -> u32 {
-        12 * u32::from(self.year) + u32::from(self.month)
+        Fields { head, product: self.product.0, means, readings }.text()
     }
 
     /// A reading lost, or more than 21 days from receipt to result.
     pub fn incomplete(&self) -> bool {
-        self.days > 21 || self.readings.contains(&Reading::Lost)
+        self.head.late() || self.readings.contains(&Reading::Lost)
     }
 }
 

@@ -1,55 +1,38 @@
-//! The rows of `lines`: each with what it shows and what must come of it.
+//! The rows of `lines` for food: each with what it shows and what must come of it.
 
-use peer::draft::halves;
-use peer::line::{Fields, FAT, MOISTURE, PROTEIN, SALT};
+use peer::draft::food::halves;
+use peer::food_line::{Fields, FAT, MOISTURE, PROTEIN, SALT};
+use peer::head::Head;
 
 use crate::plain::FIELDS;
+use crate::rows::{self, Row};
 
-/// A text, what it shows, and the refusal's number or 0 where it reads.
-pub struct Row {
-    pub text: Vec<u8>,
-    pub shows: String,
-    pub refusal: u8,
+type Rows = rows::Rows<Fields>;
+
+/// The moisture reading's tag and bits.
+fn reading(rows: &mut Rows, shows: &str, refusal: u8, tag: u8, bits: u32) {
+    rows.line(shows, refusal, |fields| fields.readings[MOISTURE] = (tag, bits));
 }
 
-#[derive(Default)]
-struct Rows(Vec<Row>);
-
-impl Rows {
-    fn text(&mut self, shows: &str, refusal: u8, text: Vec<u8>) {
-        self.0.push(Row { text, shows: shows.to_string(), refusal });
-    }
-
-    fn line(&mut self, shows: &str, refusal: u8, change: impl Fn(&mut Fields)) {
-        let mut fields = FIELDS;
-        change(&mut fields);
-        self.text(shows, refusal, fields.text());
-    }
-
-    /// The moisture reading's tag and bits.
-    fn reading(&mut self, shows: &str, refusal: u8, tag: u8, bits: u32) {
-        self.line(shows, refusal, |fields| fields.readings[MOISTURE] = (tag, bits));
-    }
-
-    fn mean(&mut self, shows: &str, refusal: u8, product: u8, analyte: usize, mean: u16) {
-        self.line(shows, refusal, |fields| {
-            fields.product = product;
-            fields.means[analyte] = mean;
-        });
-    }
+fn mean(rows: &mut Rows, shows: &str, refusal: u8, product: u8, analyte: usize, mean: u16) {
+    rows.line(shows, refusal, |fields| {
+        fields.product = product;
+        fields.means[analyte] = mean;
+    });
 }
 
 pub fn rows() -> Vec<Row> {
-    let mut rows = Rows::default();
+    let mut rows = Rows::new(FIELDS, |fields| &mut fields.head, Fields::text);
     lengths(&mut rows);
     digits(&mut rows);
-    kind_and_date(&mut rows);
+    rows.kinds(&[(0x00, 3), (0x01, 0), (0x03, 3), (0x81, 3)]);
+    rows.dates();
     products(&mut rows);
     means(&mut rows);
     tags(&mut rows);
     percents(&mut rows);
     two_faults(&mut rows);
-    rows.0
+    rows.rows
 }
 
 fn lengths(rows: &mut Rows) {
@@ -65,12 +48,7 @@ fn lengths(rows: &mut Rows) {
 }
 
 fn digits(rows: &mut Rows) {
-    let with = |at: usize, byte: u8| {
-        let mut text = FIELDS.text();
-        text[at] = byte;
-        text
-    };
-    rows.text("uppercase digit: C for c in the year", 2, with(5, b'C'));
+    rows.byte("uppercase digit: C for c in the year", 2, 5, b'C');
     rows.text("all digits in uppercase", 2, FIELDS.text().to_ascii_uppercase());
     for (shows, refusal, at, byte) in [
         ("'/', the byte before '0'", 2, 67, b'/'),
@@ -86,21 +64,8 @@ fn digits(rows: &mut Rows) {
         ("byte ff", 2, 13, 0xff),
         ("byte b0, '0' with bit 7 set", 2, 14, 0xb0),
     ] {
-        rows.text(shows, refusal, with(at, byte));
+        rows.byte(shows, refusal, at, byte);
     }
-}
-
-fn kind_and_date(rows: &mut Rows) {
-    for (kind, refusal) in [(0x00, 3), (0x01, 0), (0x03, 3), (0x81, 3)] {
-        rows.line(&format!("kind {kind:02x}"), refusal, |fields| fields.kind = kind);
-    }
-    for (year, refusal) in [(1999, 4), (2000, 0), (2099, 0), (2100, 4)] {
-        rows.line(&format!("year {year}"), refusal, |fields| fields.year = year);
-    }
-    for (month, refusal) in [(0, 4), (1, 0), (12, 0), (13, 4)] {
-        rows.line(&format!("month {month}"), refusal, |fields| fields.month = month);
-    }
-    rows.line("days 255: reading alone does not mind", 0, |fields| fields.days = 255);
 }
 
 fn products(rows: &mut Rows) {
@@ -127,10 +92,10 @@ fn means(rows: &mut Rows) {
     for (name, analyte) in
         [("moisture", MOISTURE), ("protein", PROTEIN), ("fat", FAT), ("salt", SALT)]
     {
-        rows.mean(&format!("{name} mean 10000"), 0, 2, analyte, 10_000);
-        rows.mean(&format!("{name} mean 10001"), 6, 2, analyte, 10_001);
+        mean(rows, &format!("{name} mean 10000"), 0, 2, analyte, 10_000);
+        mean(rows, &format!("{name} mean 10001"), 6, 2, analyte, 10_001);
     }
-    for (shows, refusal, product, analyte, mean) in [
+    for (shows, refusal, product, analyte, own) in [
         ("moisture mean 0", 0, 2, MOISTURE, 0),
         ("salt mean 0", 0, 2, SALT, 0),
         ("protein mean 4", 6, 2, PROTEIN, 4),
@@ -143,17 +108,17 @@ fn means(rows: &mut Rows) {
         ("fat mean 1249 of poultry", 0, 3, FAT, 1249),
         ("salt mean 65535", 6, 2, SALT, u16::MAX),
     ] {
-        rows.mean(shows, refusal, product, analyte, mean);
+        mean(rows, shows, refusal, product, analyte, own);
     }
 }
 
 fn tags(rows: &mut Rows) {
-    rows.reading("tag 01, nothing found", 0, 1, 0);
-    rows.reading("tag 02, lost", 0, 2, 0);
-    rows.reading("tag 03", 7, 3, 0);
-    rows.reading("tag 80", 7, 0x80, 0);
-    rows.reading("tag 01 with a byte not zero", 7, 1, 1);
-    rows.reading("tag 02 with a byte not zero", 7, 2, 0x0100_0000);
+    reading(rows, "tag 01, nothing found", 0, 1, 0);
+    reading(rows, "tag 02, lost", 0, 2, 0);
+    reading(rows, "tag 03", 7, 3, 0);
+    reading(rows, "tag 80", 7, 0x80, 0);
+    reading(rows, "tag 01 with a byte not zero", 7, 1, 1);
+    reading(rows, "tag 02 with a byte not zero", 7, 2, 0x0100_0000);
     rows.line("tag 03 on salt, the last reading", 7, |fields| fields.readings[SALT].0 = 3);
     rows.line("all four readings lost", 0, |fields| fields.readings = [(2, 0); 4]);
     rows.line("all four readings nothing found", 0, |fields| fields.readings = [(1, 0); 4]);
@@ -183,7 +148,7 @@ fn percents(rows: &mut Rows) {
         ("minus infinity", 7, 0xff80_0000),
         ("all bits set", 7, 0xffff_ffff),
     ] {
-        rows.reading(shows, refusal, 0, bits);
+        reading(rows, shows, refusal, 0, bits);
     }
     for (name, analyte) in [("protein", PROTEIN), ("fat", FAT), ("salt", SALT)] {
         let shows = format!("the percent after 100.0 on {name}");
@@ -195,12 +160,14 @@ fn two_faults(rows: &mut Rows) {
     let text = FIELDS.text();
     let upper = [&text[..66], b"G"].concat();
     rows.text("length 67 and no digit: length", 1, upper);
-    let mut no_digit = Fields { kind: 3, ..FIELDS }.text();
+    let mut no_digit = Fields { head: Head { kind: 3, ..FIELDS.head }, ..FIELDS }.text();
     no_digit[67] = b'x';
     rows.text("no digit and kind 03: digit", 2, no_digit);
-    rows.line("kind 00 and month 13: kind", 3, |fields| (fields.kind, fields.month) = (0, 13));
+    rows.line("kind 00 and month 13: kind", 3, |fields| {
+        (fields.head.kind, fields.head.month) = (0, 13)
+    });
     rows.line("year 2100 and product 04: date", 4, |fields| {
-        (fields.year, fields.product) = (2100, 4)
+        (fields.head.year, fields.product) = (2100, 4)
     });
     rows.line("product 81 and fat mean 1249: product", 5, |fields| {
         fields.product = 0x81;
@@ -212,10 +179,7 @@ fn two_faults(rows: &mut Rows) {
     });
     rows.line("every field at fault: kind", 3, |fields| {
         *fields = Fields {
-            kind: 0xff,
-            year: u16::MAX,
-            month: 0xff,
-            days: 0xff,
+            head: Head { kind: 0xff, year: u16::MAX, month: 0xff, days: 0xff },
             product: 0xff,
             means: [u16::MAX; 4],
             readings: [(0xff, u32::MAX); 4],
