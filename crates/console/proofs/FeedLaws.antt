@@ -14,17 +14,22 @@ use lib.Seq.{take-suc, take-add, take-all, drop-cons, drop-drop, getD-drop}
 use Rattle.laws.proofs.Bools.{either}
 use Rattle.console.specs.declared.Console.{Console}
 use Rattle.console.specs.declared.Fed.{Fed}
-use Rattle.text.specs.Buffer.{withText}
-use Rattle.text.specs.bounds.Room.{ANSWER}
+use Rattle.text.specs.Buffer.{withText, putText, putPlace}
+use Rattle.text.specs.bounds.Room.{ANSWER, STATUS}
 use Rattle.console.specs.Lines.{Before}
 use Rattle.console.specs.State.{pending, steppedOf, stepText, consoleAfter, textAfter}
 use Rattle.console.specs.Stands.{Reached}
 use Rattle.console.specs.Feed.{takes, fedOf, fedBuffer, Progress, Continued, FeedKept}
-use Rattle.text.specs.Text.{NEWLINE, answerText}
+use Rattle.text.specs.Text.{NEWLINE, answerText, statusText}
+use Rattle.reply.specs.declared.report.Report.{Report}
 use Rattle.unit.specs.Take.{takenOf}
+use Rattle.unit.specs.Status.{statusOf}
 use Rattle.unit.specs.declared.Taken.{Taken}
+use Rattle.unit.specs.declared.Unit as U
+use Rattle.console.specs.Answer.{answerTo, unitAfter, printed}
 use Rattle.text.proofs.BufferLaws.{withText-none, withText-append, withText-length, withText-front, withText-behind}
-use Rattle.text.proofs.PutLaws.{answer-length}
+use Rattle.text.proofs.PutLaws.{put-there}
+use Rattle.console.proofs.AnswerLaws.{line-given, printed-length}
 use Rattle.console.proofs.StandLaws.{step-newline, made-after, stands-after}
 use Rattle.console.proofs.PartLaws.{part-length, console-append, text-append, part-text, part-takes}
 use Rattle.console.proofs.KeptLaws.{unit-after}
@@ -40,26 +45,26 @@ pub record Going (c₀ : Console) (input output₀ : List ℕ) (c : Console) (ou
 
 -- ---- how much is taken
 
-takes-more : (input : List ℕ) (c : Console) (i room : ℕ) → i < length input → ANSWER ≤ room
+takes-more : (input : List ℕ) (c : Console) (i room : ℕ) → i < length input → STATUS ≤ room
     → takes c (drop i input) room ≡ suc (takes (steppedOf c (getD input i 0)) (drop (i + 1) input) (room - length (stepText c (getD input i 0))))
 unfolding takes
-takes-more input c i room h k = rw (drop-cons input i 0 h, le-ltb room ANSWER k, add-one i)
+takes-more input c i room h k = rw (drop-cons input i 0 h, le-ltb room STATUS k, add-one i)
 
 -- all of the input is taken, or no room is left
 takes-end : (input : List ℕ) (c : Console) (i : ℕ) → length input ≤ i → (room : ℕ) → takes c (drop i input) room ≡ 0
 unfolding takes
 takes-end input c i h room = rw (drop-of-length-le input h)
 
-takes-full : (c : Console) (xs : List ℕ) (room : ℕ) → room < ANSWER → takes c xs room ≡ 0
+takes-full : (c : Console) (xs : List ℕ) (room : ℕ) → room < STATUS → takes c xs room ≡ 0
 unfolding takes
 takes-full c [] room h = refl
-takes-full c (x ∷ xs) room h = rw (lt-ltb room ANSWER h)
+takes-full c (x ∷ xs) room h = rw (lt-ltb room STATUS h)
 
--- with an input and room for an answer something is taken
-takes-some : (c : Console) (xs : List ℕ) (room : ℕ) → 0 < length xs → ANSWER ≤ room → 0 < takes c xs room
+-- with an input and room for a status something is taken
+pub takes-some : (c : Console) (xs : List ℕ) (room : ℕ) → 0 < length xs → STATUS ≤ room → 0 < takes c xs room
 unfolding takes
 takes-some c [] room h k = absurd (omega arith)
-takes-some c (x ∷ xs) room h k = rw (le-ltb room ANSWER k) (omega arith)
+takes-some c (x ∷ xs) room h k = rw (le-ltb room STATUS k) (omega arith)
 
 -- ---- what follows i bytes of the input: it is all that is left, and its first newline is the input's
 
@@ -73,8 +78,8 @@ pub before-newline : (input : List ℕ) (i n : ℕ) → Before (drop i input) n 
 before-newline input i n b h = sym (getD-drop i input n 0) ∙ b .there (omega (arith, length-drop i input))
 
 -- what is handed back
-abbrev pub Answer : Console → List ℕ → List ℕ → Console → List ℕ → ℕ → ℕ → Type 0
-Answer c₀ input output₀ c output i w =
+abbrev pub Handed : Console → List ℕ → List ℕ → Console → List ℕ → ℕ → ℕ → Type 0
+Handed c₀ input output₀ c output i w =
     (record { console = c; taken = i; written = w } ≡ fedOf c₀ input (length output₀)) × (output ≡ fedBuffer c₀ input output₀)
 
 -- ---- the turns of the loop
@@ -85,8 +90,8 @@ module _ {c₀ : Console} {input output₀ : List ℕ} where
       let room : length output₀ - 0 ≡ length output₀ = omega arith in
       record { within = omega arith; fits = omega arith; state = refl; place = refl; text = sym (withText-none output₀ 0); left = rw (room, zero-add) }
 
-  going-on : {c : Console} {output : List ℕ} {i w : ℕ} → Going c₀ input output₀ c output i w → i < length input → ANSWER ≤ length output₀ - w
-      → length (stepText c (getD input i 0)) ≤ ANSWER
+  going-on : {c : Console} {output : List ℕ} {i w : ℕ} → Going c₀ input output₀ c output i w → i < length input → STATUS ≤ length output₀ - w
+      → length (stepText c (getD input i 0)) ≤ STATUS
       → Going c₀ input output₀ (steppedOf c (getD input i 0)) (withText output w (stepText c (getD input i 0))) (i + 1)
       (w + length (stepText c (getD input i 0)))
   going-on {c} {output} {i} {w} g h k a =
@@ -111,9 +116,13 @@ module _ {c₀ : Console} {input output₀ : List ℕ} where
         left = g .left ∙ rw (takes-more input c i (length output₀ - w) h k, room) (omega arith);
       }
 
-  -- ---- the two parts of a turn
+  -- the output is as long as it was
+  pub going-length : {c : Console} {output : List ℕ} {i w : ℕ} → Going c₀ input output₀ c output i w → length output ≡ length output₀
+  going-length {c} {output} {i} {w} g = ap length (g .text) ∙ withText-length output₀ 0 (textAfter c₀ (take i input)) (omega (arith, g .fits, g .place))
 
-  module _ {c : Console} {output : List ℕ} {i w : ℕ} (g : Going c₀ input output₀ c output i w) (k : ANSWER ≤ length output₀ - w) where
+  -- ---- the parts of a turn
+
+  module _ {c : Console} {output : List ℕ} {i w : ℕ} (g : Going c₀ input output₀ c output i w) (k : STATUS ≤ length output₀ - w) where
     -- a part of a line is held, as far as there is room
     pub going-part : (n : ℕ) → Before (drop i input) n → Going c₀ input output₀ (consoleAfter c (take n (drop i input))) output (i + n) w
     going-part n b =
@@ -143,16 +152,37 @@ module _ {c₀ : Console} {input output₀ : List ℕ} where
         }
 
     -- the line ends, and its answer is written
-    pub going-line : (t : Taken) (next : List ℕ) (to : ℕ) → i < length input → getD input i 0 ≡ NEWLINE → t ≡ takenOf (c .unit) (pending c)
-        → to ≡ w + length (answerText (t .event)) → next ≡ withText output w (answerText (t .event))
-        → Going c₀ input output₀ (record { unit = t .unit; held = 0; bytes = c .bytes }) next (i + 1) to
-    going-line t next to h e r l o =
+    going-line : (u : U.Unit) (text : List ℕ) → i < length input → getD input i 0 ≡ NEWLINE → u ≡ unitAfter (c .unit) (pending c) → text ≡ printed (answerTo (c .unit) (pending c))
+        → Going c₀ input output₀ (record { unit = u; held = 0; bytes = c .bytes }) (withText output w text) (i + 1) (w + length text)
+    going-line u text h e r t =
         let p = step-newline c (getD input i 0) (eq-eqb (getD input i 0) NEWLINE e) in
-        let five : length (stepText c (getD input i 0)) ≤ ANSWER = rw (p .1) (omega (arith, answer-length (takenOf (c .unit) (pending c) .event))) in
-        rw (l, o, r) (rw (p .0, p .1) at (going-on g h k five))
+        let fits : length (stepText c (getD input i 0)) ≤ STATUS = rw (p .1) (printed-length (answerTo (c .unit) (pending c))) in
+        rw (r, t) (rw (p .0, p .1) at (going-on g h k fits))
 
-  pub going-length : {c : Console} {output : List ℕ} {i w : ℕ} → Going c₀ input output₀ c output i w → length output ≡ length output₀
-  going-length {c} {output} {i} {w} g = ap length (g .text) ∙ withText-length output₀ 0 (textAfter c₀ (take i input)) (omega (arith, g .fits, g .place))
+    room : w + STATUS ≤ length output
+    room = omega (arith, k, g .fits, going-length g)
+
+    -- an empty one: it is the status, and the console is as it was
+    pub going-empty : (report : Report) (next : List ℕ) (to : ℕ) → i < length input → getD input i 0 ≡ NEWLINE → c .held ≡ 0 → report ≡ statusOf (c .unit)
+        → to ≡ putPlace STATUS output w (statusText report) → next ≡ putText STATUS output w (statusText report)
+        → Going c₀ input output₀ c next (i + 1) to
+    going-empty report next to h e z r p t =
+        let none : pending c ≡ [] = ap (λ (n : ℕ). take n (c .bytes)) z in
+        let there = put-there STATUS output w (statusText report) room in
+        let same : record { unit = c .unit; held = 0; bytes = c .bytes } ≡ c = ap (λ (n : ℕ). record { unit = c .unit; held = n; bytes = c .bytes }) (sym z) in
+        let line = going-line (c .unit) (statusText report) h e (rw none) (rw (none, r)) in
+        rw (p ∙ there .0, t ∙ there .1) (rw same at line)
+
+    -- any other: it is the event that the unit gives
+    pub going-given : (taken : Taken) (next : List ℕ) (to : ℕ) → i < length input → getD input i 0 ≡ NEWLINE → (length (pending c) ≡ 0 → ⊥) → taken ≡ takenOf (c .unit) (pending c)
+        → to ≡ putPlace ANSWER output w (answerText (taken .event)) → next ≡ putText ANSWER output w (answerText (taken .event))
+        → Going c₀ input output₀ (record { unit = taken .unit; held = 0; bytes = c .bytes }) next (i + 1) to
+    going-given taken next to h e n r p t =
+        let some = line-given (c .unit) (pending c) n in
+        let there = put-there ANSWER output w (answerText (taken .event)) (omega (arith, room)) in
+        let unit : taken .unit ≡ unitAfter (c .unit) (pending c) = ap (λ (a : Taken). a .unit) r ∙ sym (some .1) in
+        let text : answerText (taken .event) ≡ printed (answerTo (c .unit) (pending c)) = ap (λ (a : Taken). answerText (a .event)) r ∙ ap printed (sym (some .0)) in
+        rw (p ∙ there .0, t ∙ there .1) (going-line (taken .unit) (answerText (taken .event)) h e unit text)
 
   pub going-made : {c : Console} {output : List ℕ} {i w : ℕ} → Reached c₀ → Going c₀ input output₀ c output i w → Reached c
   going-made {c} {output} {i} {w} m g = rw (g .state) (made-after c₀ (take i input) m)
@@ -179,21 +209,21 @@ module _ {c₀ : Console} {input output₀ : List ℕ} where
       → takes c₀ input (length output₀) ≡ i
   stopped {c} {output} {i} {w} g e = g .left ∙ omega arith
 
-  answered : {c : Console} {output : List ℕ} {i w : ℕ} → Going c₀ input output₀ c output i w → takes c₀ input (length output₀) ≡ i → Answer c₀ input output₀ c output i w
+  answered : {c : Console} {output : List ℕ} {i w : ℕ} → Going c₀ input output₀ c output i w → takes c₀ input (length output₀) ≡ i → Handed c₀ input output₀ c output i w
   answered {c} {output} {i} {w} g e = (rw (e, g .state, g .place), rw e (g .text))
 
-  pub fed : {c : Console} {output : List ℕ} {i w : ℕ} → Going c₀ input output₀ c output i w → (ltb i (length input) && leb ANSWER (length output - w)) ≡ false
-      → Answer c₀ input output₀ c output i w
+  pub fed : {c : Console} {output : List ℕ} {i w : ℕ} → Going c₀ input output₀ c output i w → (ltb i (length input) && leb STATUS (length output - w)) ≡ false
+      → Handed c₀ input output₀ c output i w
   fed {c} {output} {i} {w} g e =
       let rest = takes c (drop i input) (length output₀ - w) in
       let none : rest ≡ 0 =
-      ⊎-elim (λ (t : ltb i (length input) ≡ true). takes-full c (drop i input) (length output₀ - w) (leb-false ANSWER (length output₀ - w) (rw (t, going-length g) at e)))
+      ⊎-elim (λ (t : ltb i (length input) ≡ true). takes-full c (drop i input) (length output₀ - w) (leb-false STATUS (length output₀ - w) (rw (t, going-length g) at e)))
       (λ (t : ltb i (length input) ≡ false). takes-end input c i (ltb-false i (length input) t) (length output₀ - w))
       (either (ltb i (length input))) in
       answered g (stopped g none)
 
   pub fed-progress : {c : Console} {output : List ℕ} {i w : ℕ} → Going c₀ input output₀ c output i w
-      → (ltb i (length input) && leb ANSWER (length output - w)) ≡ false
+      → (ltb i (length input) && leb STATUS (length output - w)) ≡ false
       → Progress input output (record { console = c; taken = i; written = w })
   fed-progress {c} {output} {i} {w} g e =
       let size = going-length g in

@@ -4,21 +4,19 @@ use mathlib.Core.Path.{_≡_, refl, sym, ap, _∙_}
 use mathlib.Core.Bool.{Bool, true, false, cond}
 use mathlib.Core.List.{List, [], _∷_, _++_, append-assoc, append-nil}
 use native.Mathlib.Omega.{arith}
-use borrow.Author.Tests.{eq-eqb, ne-eqb, lt-ltb, le-ltb}
+use borrow.Author.Tests.{eq-eqb, ne-eqb, eqb-false, lt-ltb, le-ltb}
 use lib.ListN.{length, take, length-append}
 use lib.Seq.{length-take-le}
 use Rattle.food_line.specs.Fields.{lineLength}
 use Rattle.unit.specs.Take.{takenOf}
-use Rattle.unit.specs.Reached.{after}
 use Rattle.unit.specs.Status.{statusOf}
 use Rattle.unit.specs.declared.Taken.{Taken}
 use Rattle.unit.specs.declared.Unit as U
 use Rattle.reply.specs.declared.report.Report.{Report}
-use Rattle.unit.proofs.Reach.{after-append}
 use Rattle.console.specs.declared.Console.{Console}
 use Rattle.text.specs.Text.{NEWLINE, answerText, statusText}
 use Rattle.console.specs.Lines.{ended, rest, lastLine, linesOf}
-use Rattle.console.specs.Transcript.{answers, textOf, transcript}
+use Rattle.console.specs.Transcript.{answers, unitAfterAll, printedAll, textOf, transcript}
 use Rattle.text.specs.Buffer.{withText, SameFrom}
 use Rattle.text.specs.bounds.Room.{ANSWER, STATUS}
 use Rattle.console.specs.bounds.Room.{FINAL}
@@ -27,7 +25,8 @@ use Rattle.console.specs.Stands.{Stands}
 use Rattle.console.specs.Feed.{takes, fedOf, fedBuffer}
 use Rattle.console.specs.Finish.{nothingHeld, lastUnit, lastText, finalText, finishedOf, finishedBuffer, Completes, FinishKept}
 use Rattle.text.proofs.BufferLaws.{withText-length, withText-append, withText-front, withText-behind}
-use Rattle.console.proofs.LineLaws.{answers-append, taken-cut}
+use Rattle.console.proofs.LineLaws.{unit-append, answers-append, taken-cut}
+use Rattle.console.proofs.AnswerLaws.{line-given}
 use Rattle.console.proofs.StandLaws.{step-newline}
 use Rattle.text.proofs.PutLaws.{answer-length}
 use Rattle.text.proofs.StatusLaws.{status-length}
@@ -42,15 +41,17 @@ module _ (c : Console) where
   last-some t = (rw t, rw t)
 
   -- a line under way ends as its newline would end it
-  pub ended-by-newline : (output : List ℕ) → nothingHeld c ≡ false → ANSWER ≤ length output
+  pub ended-by-newline : (output : List ℕ) → c .held ≤ length (c .bytes) → nothingHeld c ≡ false → STATUS ≤ length output
       → (fedOf c (NEWLINE ∷ []) (length output) .console .unit ≡ lastUnit c)
       × (fedOf c (NEWLINE ∷ []) (length output) .written ≡ length (lastText c))
       × (fedBuffer c (NEWLINE ∷ []) output ≡ withText output 0 (lastText c))
   unfolding takes
-  ended-by-newline output n h =
+  ended-by-newline output f n h =
       let some = last-some n in
+      let size = length-take-le (c .held) (c .bytes) f in
+      let line = line-given (c .unit) (pending c) (λ e. eqb-false (c .held) 0 n (sym size ∙ e)) in
       let step = step-newline c NEWLINE refl in
-      rw (le-ltb (length output) ANSWER h, some .0, some .1, step .0, step .1, append-nil) (refl, refl, refl)
+      rw (le-ltb (length output) STATUS h, some .0, some .1, step .0, step .1, line .0, line .1, append-nil) (refl, refl, refl)
 
   pub last-length : length (lastText c) ≤ ANSWER
   unfolding lastText
@@ -62,7 +63,7 @@ module _ (c : Console) where
 
   -- what is held is the unended line, if there is one
   last-is : (p : List ℕ) → c .held ≤ HELD → length (c .bytes) ≡ HELD → pending c ≡ take HELD p
-      → (lastText c ≡ answers (c .unit) (lastLine p)) × (lastUnit c ≡ after (c .unit) (lastLine p))
+      → (lastText c ≡ printedAll (answers (c .unit) (lastLine p))) × (lastUnit c ≡ unitAfterAll (c .unit) (lastLine p))
   last-is [] f s e =
       let long : c .held ≡ 0 = sym (length-take-le (c .held) (c .bytes) (omega arith)) ∙ ap length e in
       let none = last-none (eq-eqb (c .held) 0 long) in
@@ -77,16 +78,16 @@ module _ (c : Console) where
 
   pub final-transcript : (u : U.Unit) (input : List ℕ) → Stands c u input → textOf u input ++ finalText c ≡ transcript u input
   final-transcript u input s =
-      let v = after u (ended input) in
+      let v = unitAfterAll u (ended input) in
       let last = lastLine (rest input) in
       let here = last-is (rest input) (s .fits) (s .size) (s .part) in
-      let text : lastText c ≡ answers v last = here .0 ∙ ap (λ (w : U.Unit). answers w last) (s .unit) in
-      let unit : lastUnit c ≡ after u (linesOf input) =
-      here .1 ∙ ap (λ (w : U.Unit). after w last) (s .unit) ∙ sym (after-append u (ended input) last) in
+      let text : lastText c ≡ printedAll (answers v last) = here .0 ∙ ap (λ (w : U.Unit). printedAll (answers w last)) (s .unit) in
+      let unit : lastUnit c ≡ unitAfterAll u (linesOf input) =
+      here .1 ∙ ap (λ (w : U.Unit). unitAfterAll w last) (s .unit) ∙ sym (unit-append u (ended input) last) in
       sym (append-assoc (textOf u input) (lastText c) (statusText (statusOf (lastUnit c))))
       ∙ ap (λ (t : List ℕ). textOf u input ++ t ++ statusText (statusOf (lastUnit c))) text
       ∙ ap (λ (t : List ℕ). t ++ statusText (statusOf (lastUnit c))) (sym (answers-append u (ended input) last))
-      ∙ ap (λ (w : U.Unit). answers u (linesOf input) ++ statusText (statusOf w)) unit
+      ∙ ap (λ (w : U.Unit). printedAll (answers u (linesOf input)) ++ statusText (statusOf w)) unit
 
 -- ---- what `finish` hands back
 

@@ -12,11 +12,12 @@ use lib.Seq.{take-all, length-take-le}
 use Rattle.laws.proofs.Bools.{either}
 use Rattle.unit.specs.Take.{takenOf}
 use Rattle.unit.proofs.Long.{refused-long}
-use Rattle.unit.specs.Reached.{after}
+use Rattle.unit.specs.declared.Taken.{Taken}
 use Rattle.unit.specs.declared.Unit as U
-use Rattle.text.specs.Text.{NEWLINE, answerText}
+use Rattle.text.specs.Text.{NEWLINE}
 use Rattle.console.specs.Lines.{endedAfter, restAfter}
-use Rattle.console.specs.Transcript.{answers}
+use Rattle.console.specs.Answer.{told, answerTo, unitAfter, printed}
+use Rattle.console.specs.Transcript.{answers, unitAfterAll, printedAll}
 use Rattle.console.specs.State.{HELD}
 
 -- ---- a newline ends the line; any other byte is one more of it
@@ -70,11 +71,16 @@ rest-other p (y ∷ xs) x e = go (rest-other [] xs x e) (rest-other (p ++ y ∷ 
 
 -- ---- lines one after the other
 
-pub answers-append : (u : U.Unit) (ls ms : List (List ℕ)) → answers u (ls ++ ms) ≡ answers u ls ++ answers (after u ls) ms
+pub unit-append : (u : U.Unit) (ls ms : List (List ℕ)) → unitAfterAll u (ls ++ ms) ≡ unitAfterAll (unitAfterAll u ls) ms
+unit-append u [] ms = refl
+unit-append u (l ∷ ls) ms = unit-append (unitAfter u l) ls ms
+
+pub answers-append : (u : U.Unit) (ls ms : List (List ℕ))
+    → printedAll (answers u (ls ++ ms)) ≡ printedAll (answers u ls) ++ printedAll (answers (unitAfterAll u ls) ms)
 answers-append u [] ms = refl
 answers-append u (l ∷ ls) ms =
-    ap (λ (t : List ℕ). answerText (takenOf u l .event) ++ t) (answers-append (takenOf u l .unit) ls ms)
-    ∙ sym (append-assoc (answerText (takenOf u l .event)) (answers (takenOf u l .unit) ls) (answers (after (takenOf u l .unit) ls) ms))
+    ap (λ (t : List ℕ). printed (answerTo u l) ++ t) (answers-append (unitAfter u l) ls ms)
+    ∙ sym (append-assoc (printed (answerTo u l)) (printedAll (answers (unitAfter u l) ls)) (printedAll (answers (unitAfterAll (unitAfter u l) ls) ms)))
 
 -- ---- a line of 69 bytes or more is answered as its first 69 are: either is refused for its length
 
@@ -85,3 +91,9 @@ taken-cut u l = ⊎-elim (λ e. ap (takenOf u) (take-all HELD l (leb-true (lengt
     long h =
         let cut : length (take HELD l) ≡ HELD = length-take-le HELD l (omega arith) in
         refused-long u (take HELD l) (omega arith) ∙ sym (refused-long u l (omega arith))
+
+pub line-cut : (u : U.Unit) (l : List ℕ) → (answerTo u (take HELD l) ≡ answerTo u l) × (unitAfter u (take HELD l) ≡ unitAfter u l)
+line-cut u [] = (refl, refl)
+line-cut u (x ∷ l) =
+    let same = taken-cut u (x ∷ l) in
+    (ap (λ (t : Taken). told (t .event)) same, ap (λ (t : Taken). t .unit) same)

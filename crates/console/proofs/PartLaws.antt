@@ -14,7 +14,7 @@ use lib.Seq.{take-suc, take-add, take-take, getD-take, length-take-le}
 use Rattle.laws.proofs.Bools.{either, or-neither}
 use Rattle.laws.proofs.Gathered.{joined, with-the-next, each}
 use Rattle.console.specs.declared.Console.{Console}
-use Rattle.text.specs.bounds.Room.{ANSWER}
+use Rattle.text.specs.bounds.Room.{STATUS}
 use Rattle.text.specs.Text.{NEWLINE}
 use Rattle.console.specs.Lines.{hasNewline, Before}
 use Rattle.console.specs.State.{HELD, heldOf, steppedOf, stepText, consoleAfter, textAfter}
@@ -66,14 +66,14 @@ part-text c (x ∷ xs) h =
     let both = or-neither (eqb x NEWLINE) (hasNewline xs) h in
     rw (step-other c x (both .0) .1) (part-text (steppedOf c x) xs (both .1))
 
-pub part-takes : (c : Console) (xs ys : List ℕ) (room : ℕ) → hasNewline xs ≡ false → ANSWER ≤ room
+pub part-takes : (c : Console) (xs ys : List ℕ) (room : ℕ) → hasNewline xs ≡ false → STATUS ≤ room
     → takes c (xs ++ ys) room ≡ length xs + takes (consoleAfter c xs) ys room
 unfolding takes
 part-takes c [] ys room h k = omega arith
 part-takes c (x ∷ xs) ys room h k =
     let both = or-neither (eqb x NEWLINE) (hasNewline xs) h in
     let same : room - 0 ≡ room = omega arith in
-    rw (le-ltb room ANSWER k, step-other c x (both .0) .1, same) (ap suc (part-takes (steppedOf c x) xs ys room (both .1) k) ∙ sym (suc-add (length xs) (takes (consoleAfter (steppedOf c x) xs) ys room)))
+    rw (le-ltb room STATUS k, step-other c x (both .0) .1, same) (ap suc (part-takes (steppedOf c x) xs ys room (both .1) k) ∙ sym (suc-add (length xs) (takes (consoleAfter (steppedOf c x) xs) ys room)))
 
 full : (c : Console) (xs : List ℕ) → hasNewline xs ≡ false → HELD ≤ c .held → consoleAfter c xs ≡ c
 full c [] h k = refl

@@ -12,24 +12,24 @@ use lib.Dec.{ltb, eqb}
 use lib.ListN.{length, take, set, length-append, length-set, length-take}
 use lib.Seq.{take-all, take-suc-set, take-append-le, length-take-le, append-snoc}
 use Rattle.laws.proofs.Bools.{either}
-use Rattle.unit.specs.Take.{takenOf}
 use Rattle.unit.specs.declared.Unit as U
-use Rattle.unit.specs.Reached.{after, Reached as ReachedUnit}
-use Rattle.unit.proofs.Reach.{after-append, reached-after}
+use Rattle.unit.specs.Reached.{Reached as ReachedUnit}
 use Rattle.console.specs.declared.Console.{Console}
-use Rattle.text.specs.Text.{NEWLINE, answerText}
+use Rattle.text.specs.Text.{NEWLINE}
 use Rattle.console.specs.Lines.{endedAfter, restAfter, ended, rest}
-use Rattle.console.specs.Transcript.{textOf}
+use Rattle.console.specs.Answer.{answerTo, unitAfter, printed}
+use Rattle.console.specs.Transcript.{unitAfterAll, textOf}
 use Rattle.console.specs.State.{HELD, newConsole, pending, heldOf, endedOf, steppedOf, stepText, consoleAfter, textAfter}
 use Rattle.console.specs.Stands.{Stands, Reached}
-use Rattle.console.proofs.LineLaws.{ended-newline, rest-newline, ended-other, rest-other, answers-append, taken-cut}
+use Rattle.console.proofs.LineLaws.{ended-newline, rest-newline, ended-other, rest-other, unit-append, answers-append, line-cut}
+use Rattle.console.proofs.GivenLaws.{reached-lines}
 
 pub reached : (c : Console) → Reached c → ReachedUnit (c .unit)
-reached c m = subst ReachedUnit (sym (m .3 .unit)) (reached-after (m .0) (ended (m .2)) (m .1))
+reached c m = subst ReachedUnit (sym (m .3 .unit)) (reached-lines (m .0) (ended (m .2)) (m .1))
 
 -- ---- the cases of a step
 
-pub step-newline : (c : Console) (x : ℕ) → eqb x NEWLINE ≡ true → (steppedOf c x ≡ endedOf c) × (stepText c x ≡ answerText (takenOf (c .unit) (pending c) .event))
+pub step-newline : (c : Console) (x : ℕ) → eqb x NEWLINE ≡ true → (steppedOf c x ≡ endedOf c) × (stepText c x ≡ printed (answerTo (c .unit) (pending c)))
 unfolding steppedOf stepText
 step-newline c x e = (rw e, rw e)
 
@@ -43,23 +43,25 @@ unfolding endedAfter restAfter
 stands-new u = record { unit = refl; fits = omega arith; size = refl; part = refl }
 
 -- the console holds as many bytes as the line has so far, up to 69
-held-is : (c : Console) (u : U.Unit) (xs : List ℕ) → Stands c u xs → c .held ≡ length (take HELD (rest xs))
+pub held-is : (c : Console) (u : U.Unit) (xs : List ℕ) → Stands c u xs → c .held ≡ length (take HELD (rest xs))
 held-is c u xs s = sym (length-take-le (c .held) (c .bytes) (omega (arith, s .fits, s .size))) ∙ ap length (s .part)
 
 module _ (c : Console) (u : U.Unit) (xs : List ℕ) (x : ℕ) (s : Stands c u xs) where
-  same-line : takenOf (c .unit) (pending c) ≡ takenOf (after u (ended xs)) (rest xs)
-  same-line = rw (s .part, s .unit) (taken-cut (after u (ended xs)) (rest xs))
+  same-line
+      : (answerTo (c .unit) (pending c) ≡ answerTo (unitAfterAll u (ended xs)) (rest xs))
+      × (unitAfter (c .unit) (pending c) ≡ unitAfter (unitAfterAll u (ended xs)) (rest xs))
+  same-line = rw (s .part, s .unit) (line-cut (unitAfterAll u (ended xs)) (rest xs))
 
   stands-ended : eqb x NEWLINE ≡ true → Stands (endedOf c) u (xs ++ x ∷ [])
   stands-ended e = record {
-    unit = rw (same-line, ended-newline [] xs x e) (sym (after-append u (ended xs) (rest xs ∷ [])));
+    unit = rw (same-line .1, ended-newline [] xs x e) (sym (unit-append u (ended xs) (rest xs ∷ [])));
     fits = omega arith;
     size = s .size;
     part = rw (rest-newline [] xs x e);
   }
 
-  text-ended : eqb x NEWLINE ≡ true → textOf u (xs ++ x ∷ []) ≡ textOf u xs ++ answerText (takenOf (c .unit) (pending c) .event)
-  text-ended e = rw (same-line, ended-newline [] xs x e, answers-append u (ended xs) (rest xs ∷ []), append-nil)
+  text-ended : eqb x NEWLINE ≡ true → textOf u (xs ++ x ∷ []) ≡ textOf u xs ++ printed (answerTo (c .unit) (pending c))
+  text-ended e = rw (same-line .0, ended-newline [] xs x e, answers-append u (ended xs) (rest xs ∷ []), append-nil)
 
   stands-room : eqb x NEWLINE ≡ false → c .held < HELD → Stands (record { unit = c .unit; held = c .held + 1; bytes = set (c .bytes) (c .held) x }) u (xs ++ x ∷ [])
   stands-room e h =

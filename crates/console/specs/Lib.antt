@@ -1,6 +1,8 @@
--- Document 01, "The program".
+-- Document 01, "The program"; document 02, request Two.
 pub mod Lines
+pub mod Answer
 pub mod Transcript
+pub mod Given
 pub mod bounds
 pub mod State
 pub mod Stands

@@ -31,6 +31,12 @@ lastLine (x ∷ xs) = (x ∷ xs) ∷ []
 abbrev pub linesOf : List ℕ → List (List ℕ)
 linesOf input = ended input ++ lastLine (rest input)
 
+-- Document 02, request Two: lists are read with empty lines dropped. The lines given to the unit are those that are not empty.
+abbrev pub given : List (List ℕ) → List (List ℕ)
+given [] = []
+given ([] ∷ ls) = given ls
+given ((x ∷ l) ∷ ls) = (x ∷ l) ∷ given ls
+
 -- What `ended` and `rest` are, as a law that is proved (`split` of proofs/SplitLaws): the input is the ended lines, each with its newline, and the
 -- rest; and no newline stands in them.
 abbrev pub unlines : List (List ℕ) → List ℕ

@@ -6,10 +6,9 @@ use mathlib.Core.List.{List, [], _∷_, _++_}
 use lib.Dec.{ltb, eqb}
 use lib.ListN.{take, set, replicate}
 use Rattle.food_line.specs.Fields.{lineLength}
-use Rattle.unit.specs.Claim.{isAccepted}
-use Rattle.unit.specs.Take.{takenOf}
 use Rattle.unit.specs.declared.Unit as U
-use Rattle.text.specs.Text.{NEWLINE, answerText}
+use Rattle.text.specs.Text.{NEWLINE}
+use Rattle.console.specs.Answer.{answerTo, unitAfter, printed, tellsAccepted}
 use Rattle.console.specs.declared.Console.{Console}
 
 -- how many bytes of a line are held: one more than the longest line of any category has, which is food's
@@ -27,20 +26,20 @@ pending c = take (c .held) (c .bytes)
 abbrev pub heldOf : Console → ℕ → Console
 heldOf c x = cond (ltb (c .held) HELD) (record { unit = c .unit; held = c .held + 1; bytes = set (c .bytes) (c .held) x }) c
 
--- a newline: the line is taken
+-- a newline: the line is taken, if it is not empty
 abbrev pub endedOf : Console → Console
-endedOf c = record { unit = takenOf (c .unit) (pending c) .unit; held = 0; bytes = c .bytes }
+endedOf c = record { unit = unitAfter (c .unit) (pending c); held = 0; bytes = c .bytes }
 
 unfoldable pub steppedOf : Console → ℕ → Console
 steppedOf c x = cond (eqb x NEWLINE) (endedOf c) (heldOf c x)
 
 unfoldable pub stepText : Console → ℕ → List ℕ
-stepText c x = cond (eqb x NEWLINE) (answerText (takenOf (c .unit) (pending c) .event)) []
+stepText c x = cond (eqb x NEWLINE) (printed (answerTo (c .unit) (pending c))) []
 
 -- whether a line that the bytes ended was accepted
 abbrev pub accepts : Console → List ℕ → Bool
 accepts c [] = false
-accepts c (x ∷ xs) = (eqb x NEWLINE && isAccepted (takenOf (c .unit) (pending c) .event)) || accepts (steppedOf c x) xs
+accepts c (x ∷ xs) = (eqb x NEWLINE && tellsAccepted (answerTo (c .unit) (pending c))) || accepts (steppedOf c x) xs
 
 -- the console after bytes, and the text of their answers
 abbrev pub consoleAfter : Console → List ℕ → Console

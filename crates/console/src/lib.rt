@@ -17,7 +17,7 @@ ghost use Prim.Native.Nat.{_≤_};
 ghost use lib.ListN.{length, take};
 ghost use Rattle.unit.specs.Reached.{Reached as ReachedUnit};
 ghost use Rattle.text.specs.Buffer.{withText};
-ghost use Rattle.text.specs.bounds.Room.{ANSWER};
+ghost use Rattle.text.specs.bounds.Room.{STATUS};
 ghost use Rattle.console.specs.bounds.Room.{FINAL};
 ghost use Rattle.console.specs.Lines.{Before};
 ghost use Rattle.console.specs.State.{newConsole, Holds};
@@ -82,12 +82,12 @@ fn hold(mut held: usize, mut bytes: [u8; HELD], input: &[u8]) -> Part
     Part { held, bytes, end }
 }
 
-// Takes the input line by line and answers each that ends, while the output has room for one more
-// answer.
+// Takes the input line by line and answers each that ends, an empty one by the status, while the
+// output has room for a status, the longest answer.
 // `whole`, `bytes`: what is handed back and every byte of the output are the definitions'. `reached`:
 // the console is one that our calls made. `progress`: something is taken where there is room.
 // `stands`: what is written so far is the transcript's, whatever pieces the input comes in. `kept`: a
-// refusal changes nothing.
+// refusal changes nothing, nor does an empty line.
 pub fn feed(start: Console, input: &[u8], output: &mut [u8]) -> Fed
     requires { ⌜ Reached start ⌝ }
     ensures whole { λ r. ⌜ r ≡ fedOf start (now (input .entry)) (length (now (output .entry))) ⌝ }
@@ -102,18 +102,24 @@ pub fn feed(start: Console, input: &[u8], output: &mut [u8]) -> Fed
     let mut bytes = start.bytes;
     let mut taken = 0;
     let mut written = 0;
-    while (taken < input.len()) & (ANSWER <= output.len() - written) {
+    while (taken < input.len()) & (STATUS <= output.len() - written) {
         let part = hold(held, bytes, &input[taken..]);
         held = part.held;
         bytes = part.bytes;
         taken += part.end;
         if taken < input.len() {
-            let answer = take(unit, &bytes[..held]);
-            let event = answer.event;
-            unit = answer.unit;
-            held = 0;
-            written = put_answer(event, output, written);
             taken += 1;
+            if held == 0 {
+                // A copy: the loop is quicker where only `take` is handed the unit itself.
+                let there = unit;
+                written = put_status(status(there), output, written);
+            } else {
+                let answer = take(unit, &bytes[..held]);
+                let event = answer.event;
+                unit = answer.unit;
+                held = 0;
+                written = put_answer(event, output, written);
+            }
         }
     }
     let console = Console { unit, held, bytes };
@@ -126,7 +132,7 @@ pub fn feed(start: Console, input: &[u8], output: &mut [u8]) -> Fed
 
 // Ends a line that is under way, as its newline would.
 fn end_line(console: Console, output: &mut [u8]) -> Fed
-    requires { ⌜ Reached console × (ANSWER ≤ length (now output)) ⌝ }
+    requires { ⌜ Reached console × (STATUS ≤ length (now output)) ⌝ }
     ensures unit { λ r. ⌜ r .console .unit ≡ lastUnit console ⌝ }
     ensures place { λ r. ⌜ r .written ≡ length (lastText console) ⌝ }
     ensures text { λ r. ⌜ now (output .exit) ≡ withText (now (output .entry)) 0 (lastText console) ⌝ }

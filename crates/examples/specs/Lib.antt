@@ -2,3 +2,4 @@
 pub mod Table
 pub mod Witness
 pub mod Residue
+pub mod Program

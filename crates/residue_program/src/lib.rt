@@ -3,9 +3,9 @@
 // The tested program's compound: document 02, request One.
 const TESTED: u8 = 4;
 
-// Gives the lines of standard input to a new unit of that compound and answers them on standard
-// output, and then gives the status. It lends and hands back nothing, and no contract can speak of what
-// is read and written.
+// Answers the lines of standard input on standard output, by a new unit of that compound, and then
+// gives the status. It lends and hands back nothing, and no contract can speak of what is read and
+// written.
 pub fn run() {
     let made = unit::new_residue_unit(TESTED);
     terminal::run(made.unit);

@@ -1,5 +1,5 @@
-// Gives the lines of standard input to a unit and answers them on standard output, and then gives the
-// status. Where a read or a write fails it stops.
+// Answers the lines of standard input on standard output, by a unit, and then gives the status. Where
+// a read or a write fails it stops.
 use console::Console;
 use console::feed;
 use console::finish;
@@ -24,7 +24,7 @@ struct Turn {
     good: bool,
 }
 
-// Feeds a piece of the input, and writes the answers whenever the output has no more room.
+// Feeds a piece of the input, and writes what each call of `feed` wrote.
 fn answer(mut console: Console, piece: &[u8], output: &mut [u8]) -> Turn
     requires { ⌜ Reached console × (FINAL ≤ length (now output)) ⌝ }
     ensures { λ r. ⌜ Reached (r .console) ⌝ }
@@ -84,9 +84,9 @@ fn converse(mut console: Console, input: &mut [u8], output: &mut [u8])
     }
 }
 
-// Gives the lines of standard input to a unit and answers them on standard output, and then gives the
-// status. It lends and hands back nothing. No contract can speak of what is read and written: that
-// each piece is fed and what is fed is written is read off the code above.
+// Answers the lines of standard input on standard output, by a unit, and then gives the status. It
+// lends and hands back nothing. No contract can speak of what is read and written: that each piece is
+// fed and what is fed is written, before more is read, is read off the code above.
 pub fn run(unit: Unit)
     requires { ⌜ ReachedUnit unit ⌝ }
 {

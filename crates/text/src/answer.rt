@@ -1,4 +1,4 @@
-// The answer to a line.
+// An event, as the answer to a line.
 
 use crate::hex::put_line;
 use crate::room::has_room;
@@ -8,7 +8,7 @@ ghost use Rattle.text.specs.Text.{eventBytes, answerText};
 ghost use Rattle.text.specs.bounds.Room.{ANSWER};
 ghost use Rattle.text.specs.Buffer.{putText, putPlace};
 
-// How many bytes an answer has: two digits to a byte, and a newline.
+// How many bytes an event has as an answer: two digits to a byte, and a newline.
 pub const ANSWER: usize = 5;
 
 // The event byte and the number byte: the number is 0 but where the event has one.
@@ -27,7 +27,7 @@ fn bytes_of(event: Event) -> [u8; 2]
     }
 }
 
-// Puts the answer to a line into the buffer, from `at` on, and gives the place after it. Where there
+// Puts an event into the buffer, from `at` on, and gives the place after it. Where there
 // is no room for it nothing changes.
 pub fn put_answer(event: Event, buffer: &mut [u8], at: usize) -> usize
     ensures place { λ r. ⌜ r ≡ putPlace ANSWER (now (buffer .entry)) at (answerText event) ⌝ }

@@ -1,7 +1,7 @@
--- A line longer than any that reads is refused for its length, whatever stands in it. Assumes nothing.
+-- A line of a length that no category has is refused for it, whatever stands in it. Assumes nothing.
 use Prim.Native.Nat.{ℕ, _<_}
 use mathlib.Core.Path.{_≡_}
-use mathlib.Core.List.{List}
+use mathlib.Core.List.{List, []}
 use native.Mathlib.Omega.{arith}
 use borrow.Author.Tests.{ne-eqb}
 use lib.ListN.{length}
@@ -15,10 +15,17 @@ use Rattle.seen.specs.Rules.{rulesOf}
 use Rattle.unit.specs.Take.{refusedOf, takenIn, takenOf}
 use Rattle.unit.specs.declared.Unit as U
 
-pub refused-long : (u : U.Unit) (line : List ℕ) → lineLength < length line → takenOf u line ≡ refusedOf u LENGTH
+refused-other : (u : U.Unit) (line : List ℕ) → (length line ≡ lineLength → ⊥) → (length line ≡ residueLength → ⊥) → takenOf u line ≡ refusedOf u LENGTH
 unfolding firstRow takenIn
-refused-long u line h = go (u .category)
+refused-other u line food residue = go (u .category)
   where
     go : (k : Category) → takenIn (rulesOf k) u line ≡ refusedOf u LENGTH
-    go Food = rw (ne-eqb (length line) lineLength (λ e. omega arith))
-    go (Residue compound) = rw (ne-eqb (length line) residueLength (λ e. omega arith))
+    go Food = rw (ne-eqb (length line) lineLength food)
+    go (Residue compound) = rw (ne-eqb (length line) residueLength residue)
+
+-- longer than any line that reads
+pub refused-long : (u : U.Unit) (line : List ℕ) → lineLength < length line → takenOf u line ≡ refusedOf u LENGTH
+refused-long u line h = refused-other u line (λ e. omega arith) (λ e. omega arith)
+
+pub refused-empty : (u : U.Unit) → takenOf u [] ≡ refusedOf u LENGTH
+refused-empty u = refused-other u [] (λ e. omega arith) (λ e. omega arith)

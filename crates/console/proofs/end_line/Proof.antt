@@ -1,6 +1,7 @@
 -- `end_line` meets its contract: an empty line is none, else the line ends as its newline would end it. Assumes nothing.
 use borrow.Author.Needs.{needs}
 use borrow.Author.Tests.{eq-eqb, ne-eqb}
+use native.Mathlib.Omega.{arith}
 use mathlib.Core.Path.{sym, ap, _∙_}
 use denote.Ref.{now}
 use Rattle.console.specs.declared.Fed.{Fed}
@@ -28,7 +29,8 @@ returns-2 : tie.Need-returns-2
 returns-2 c =
     let start = c .before .before .before .before .before .before .before .before in
     let did = c .before .before .feed .ensures in
-    let ends = ended-by-newline (start .args .console) (now (start .args .output)) (ne-eqb _ _ (c .before .before .before .before .before .if1 .left)) (start .pre .1) in
+    let stands = start .pre .0 .3 in
+    let ends = ended-by-newline (start .args .console) (now (start .args .output)) (omega (arith, stands .fits, stands .size)) (ne-eqb _ _ (c .before .before .before .before .before .if1 .left)) (start .pre .1) in
     (ap (λ (r : Fed). r .console .unit) (did .0) ∙ ends .0, (ap (λ (r : Fed). r .written) (did .0) ∙ ends .1, did .1 .0 ∙ ends .2))
 
 pub end-line-spec : {M : Type 1} → statement M

@@ -10,13 +10,12 @@ use lib.ListN.{length, drop}
 use lib.Seq.{length-take-le}
 use Rattle.laws.proofs.Bools.{and-both}
 use Rattle.console.specs.declared.Console.{Console}
-use Rattle.text.specs.bounds.Room.{ANSWER}
-use Rattle.text.specs.Text.{answerText}
+use Rattle.text.specs.bounds.Room.{STATUS}
 use Rattle.console.specs.Lines.{Before}
+use Rattle.console.specs.State.{pending}
 use Rattle.console.specs.Stands.{Reached}
-use Rattle.text.proofs.PutLaws.{put-there}
 use Rattle.console.proofs.StandLaws.{reached}
-use Rattle.console.proofs.FeedLaws.{Going, going-start, going-part, going-line, going-length, going-made, going-stands, going-kept, all-left, before-newline, fed, fed-progress}
+use Rattle.console.proofs.FeedLaws.{Going, going-start, going-part, going-empty, going-given, going-length, going-made, going-stands, going-kept, all-left, before-newline, fed, fed-progress}
 use Rattle.console.proofs.feed.Statement.{statement}
 use Rattle.console.proofs.feed.Tie as tie
 
@@ -49,11 +48,11 @@ long c = omega (arith, c .good .1 .0)
 size : (c : tie.At-loop Inv-loop μ-loop) → length (c .loop .output) ≡ length (output c)
 size c = going-length (c .loop .inv .1)
 
--- there is a byte, and room for an answer
-ready : (c : tie.In-loop Inv-loop μ-loop) → (c .before .loop .taken < length (input (c .before))) × (ANSWER ≤ length (output (c .before)) - c .before .loop .written)
+-- there is a byte, and room for a status
+ready : (c : tie.In-loop Inv-loop μ-loop) → (c .before .loop .taken < length (input (c .before))) × (STATUS ≤ length (output (c .before)) - c .before .loop .written)
 ready c =
     let both = and-both _ _ (c .loop-test .taken) in
-    let room : ANSWER ≤ length (c .before .loop .output) - c .before .loop .written = leb-true _ _ (both .1) in
+    let room : STATUS ≤ length (c .before .loop .output) - c .before .loop .written = leb-true _ _ (both .1) in
     (ltb-true _ _ (both .0), omega (arith, room, size (c .before)))
 
 -- ---- after what stands before the next newline is held
@@ -75,6 +74,10 @@ held c =
 
 here : (c : tie.After-hold Inv-loop μ-loop) → Reached (console c)
 here c = going-made (c .before .before .before .loop .inv .0) (held c)
+
+-- as many bytes are held as it says
+long-enough : (c : tie.After-hold Inv-loop μ-loop) → length (pending (console c)) ≡ console c .held
+long-enough c = let m = here c .3 in length-take-le _ _ (omega (arith, m .fits, m .size))
 
 -- ---- what is left to show
 
@@ -99,41 +102,61 @@ hold-requires c κs = search needs
 add-taken : tie.Need-add-taken Inv-loop μ-loop
 add-taken c = omega (arith, held (c .before .before) .within, long (c .before .before .before .before .before .before .before .before .before .before))
 
+add-taken-2 : tie.Need-add-taken-2 Inv-loop μ-loop
+add-taken-2 c = omega (arith, c .if1 .taken, long (c .before .before .before .before .before .before .before .before .before .before .before))
+
+status-requires : tie.Need-status-requires Inv-loop μ-loop
+status-requires c κs = search needs
+
+put-status-requires : tie.Need-put-status-requires Inv-loop μ-loop
+put-status-requires c κs = search needs
+
+loop-less : tie.Need-loop-less Inv-loop μ-loop
+loop-less c = omega (arith, c .before .before .before .before .before .before .if1 .taken)
+
+loop-again : tie.Need-loop-again Inv-loop μ-loop
+loop-again c =
+    let empty = c .before .before .before .before .before .before in
+    let more = empty .if1 .taken in
+    let after = empty .before .before .before in
+    let put = c .before .before .put-status in
+    let room = ready (after .before .before) .1 in (
+      after .before .before .before .loop .inv .0,
+      going-empty (held after) room _ (put .last .1 .0) (put .result) more (before-newline _ _ _ (end after) more) (c .before .before .before .before .before .if2 .taken) (c .before .before .before .before .status .ensures .0) (put .ensures .0) (put .ensures .1),
+    )
+
 array-share-prefix-bytes : tie.Need-array-share-prefix-bytes Inv-loop μ-loop
-array-share-prefix-bytes c = let m = here (c .before .before .before) .3 in omega (arith, m .fits, m .size)
+array-share-prefix-bytes c = let m = here (c .before .before .before .before) .3 in omega (arith, m .fits, m .size)
 
 slice-aggregate-take : tie.Need-slice-aggregate-take Inv-loop μ-loop
-slice-aggregate-take c = let m = here (c .before .before .before .before) .3 in sym (length-take-le _ _ (omega (arith, m .fits, m .size)))
+slice-aggregate-take c = sym (long-enough (c .before .before .before .before .before))
 
 take-requires : tie.Need-take-requires Inv-loop μ-loop
-take-requires c κs = reached _ (here (c .before .before .before .before))
+take-requires c κs = reached _ (here (c .before .before .before .before .before))
 
 put-answer-requires : tie.Need-put-answer-requires Inv-loop μ-loop
 put-answer-requires c κs = search needs
 
-add-taken-2 : tie.Need-add-taken-2 Inv-loop μ-loop
-add-taken-2 c = omega (arith, c .before .before .before .before .before .before .before .if1 .taken, long (c .before .before .before .before .before .before .before .before .before .before .before .before .before .before .before .before .before .before))
-
-loop-less : tie.Need-loop-less Inv-loop μ-loop
-loop-less c = omega (arith, c .before .before .before .before .before .before .before .if1 .taken)
-
-loop-again : tie.Need-loop-again Inv-loop μ-loop
-loop-again c =
-    let after = c .before .before .before .before .before .before .before .before .before .before in
-    let more = c .before .before .before .before .before .before .before .if1 .taken in
-    let put = c .before .before .put-answer in
-    let at = c .before .before .before .before .before .before .before .before .before .before .before .before .before in
-    let room = ready (c .before .before .before .before .before .before .before .before .before .before .before .before) .1 in
-    let fits : at .loop .written + ANSWER ≤ length (at .loop .output) = omega (arith, room, size at) in
-    let there = put-there ANSWER (at .loop .output) (at .loop .written) (answerText (c .before .before .before .before .before .take .result .event)) fits in
-    let line = going-line (held after) room (c .before .before .before .before .before .take .result) (put .last .1 .0) (put .result) more (before-newline _ _ _ (end after) more) (c .before .before .before .before .before .take .ensures .0) (put .ensures .0 ∙ there .0) (put .ensures .1 ∙ there .1) in
-    (at .loop .inv .0, line)
-
 loop-less-2 : tie.Need-loop-less-2 Inv-loop μ-loop
-loop-less-2 c = omega (arith, ready (c .before .before .before .before .before) .0, c .if1 .left)
+loop-less-2 c = omega (arith, c .before .before .before .before .before .before .before .before .if1 .taken)
 
 loop-again-2 : tie.Need-loop-again-2 Inv-loop μ-loop
-loop-again-2 c = (c .before .before .before .before .before .before .loop .inv .0, held (c .before .before .before))
+loop-again-2 c =
+    let line = c .before .before .before .before .before .before .before .before in
+    let more = line .if1 .taken in
+    let after = line .before .before .before in
+    let put = c .before .before .put-answer in
+    let room = ready (after .before .before) .1 in
+    let some = c .before .before .before .before .before .before .before .if2 .left in (
+      after .before .before .before .loop .inv .0,
+      going-given (held after) room (c .before .before .before .before .before .take .result) (put .last .1 .0) (put .result) more (before-newline _ _ _ (end after) more) (λ e. some (sym (long-enough after) ∙ e)) (c .before .before .before .before .before .take .ensures .0) (put .ensures .0) (put .ensures .1),
+    )
+
+loop-less-3 : tie.Need-loop-less-3 Inv-loop μ-loop
+loop-less-3 c = omega (arith, ready (c .before .before .before .before .before) .0, c .if1 .left)
+
+loop-again-3 : tie.Need-loop-again-3 Inv-loop μ-loop
+loop-again-3 c = (c .before .before .before .before .before .before .loop .inv .0, held (c .before .before .before))
 
 same-length : tie.Need-same-length Inv-loop μ-loop
 same-length c = size (c .before)
@@ -168,14 +191,18 @@ feed-spec =
     part-hold-end
     hold-requires
     add-taken
+    add-taken-2
+    status-requires
+    put-status-requires
+    loop-less
+    loop-again
     array-share-prefix-bytes
     slice-aggregate-take
     take-requires
     put-answer-requires
-    add-taken-2
-    loop-less
-    loop-again
     loop-less-2
     loop-again-2
+    loop-less-3
+    loop-again-3
     same-length
     returns)

@@ -2,7 +2,7 @@
 use Prim.Native.Nat.{ℕ, _+_, _*_}
 use Rattle.difference.specs.Contribution.{CHARTS}
 
--- an answer has 2 bytes
+-- an event as an answer has 2 bytes
 abbrev pub ANSWER : ℕ
 ANSWER = 5
 
