@@ -1,12 +1,13 @@
 //! Lists of lines from a seed, of either category. The fast unit goes along, so that the lists lead
 //! where they should: through sets, admissions, charts at their limits, misses, full stretches and
-//! closing.
+//! closing, with a look at the status here and there.
 
 mod clock;
 mod disorder;
 mod fine;
 mod limits;
 mod lines;
+mod looks;
 mod misses;
 mod samples;
 mod sets;
@@ -31,6 +32,8 @@ struct Author {
     most_lines: usize,
     /// In a hundred lines, how many more that are out of order.
     disorder: usize,
+    /// In a hundred lines, after how many there is a look at the status.
+    looks: usize,
     year: u16,
     month: u8,
 }
@@ -51,9 +54,12 @@ pub fn list(category: Category, seed: u64, number: u64) -> Vec<u8> {
         Theme::Shown | Theme::Sets => random.pick(&[0, 0, 2, 10]),
         Theme::Full => random.pick(&[0, 1]),
     };
+    let looks = random.pick(&[0, 1, 2]);
     let year = random.pick(&[2000, 2011, 2012, 2050, 2090, 2098, 2099]);
     let month = random.between(1, 12) as u8;
-    let mut author = Author { disorder, year, month, ..Author::new(category, random, most_lines) };
+    let plain = Author::new(category, random, most_lines);
+    let mut author = Author { disorder, looks, year, month, ..plain };
+    author.look_at_first();
     while author.more() {
         author.episode(theme);
     }
@@ -61,10 +67,19 @@ pub fn list(category: Category, seed: u64, number: u64) -> Vec<u8> {
 }
 
 impl Author {
-    /// In good order, from January 2000 on.
+    /// In good order, without a look at the status, from January 2000 on.
     fn new(category: Category, random: Random, most_lines: usize) -> Author {
-        let (unit, input) = (Unit::new(category), Vec::new());
-        Author { random, unit, input, lines: 0, most_lines, disorder: 0, year: 2000, month: 1 }
+        Author {
+            random,
+            unit: Unit::new(category),
+            input: Vec::new(),
+            lines: 0,
+            most_lines,
+            disorder: 0,
+            looks: 0,
+            year: 2000,
+            month: 1,
+        }
     }
 
     fn more(&self) -> bool {
@@ -95,7 +110,8 @@ impl Author {
                 self.input.pop();
             }
             2 => self.input.truncate(self.input.len().saturating_sub(2 + self.random.below(67))),
-            3 if self.lines + 2 <= LONGEST_LIST => self.input.extend(b"\n\n"),
+            3 if self.lines < LONGEST_LIST => self.input.push(b'\n'),
+            4 if self.lines + 2 <= LONGEST_LIST => self.input.extend(b"\n\n"),
             _ => {}
         }
         self.input

@@ -1,4 +1,4 @@
-//! "The program": its lines, its events and its status as text.
+//! "The program": its lines, its events and its status as text; request Two's empty line.
 
 use std::io::{self, BufRead, Write};
 
@@ -14,12 +14,20 @@ pub fn lines(input: &[u8]) -> impl Iterator<Item = &[u8]> {
     pieces.into_iter().flatten()
 }
 
-/// Everything the program of a category prints for an input.
+/// An input of these lines, each ended by a newline.
+pub fn ended(lines: &[&[u8]]) -> Vec<u8> {
+    lines.iter().flat_map(|line| [line, &b"\n"[..]].concat()).collect()
+}
+
+/// Everything the program of a category prints for an input. An empty line shows the status there.
 pub fn transcript(category: Category, input: &[u8]) -> Vec<u8> {
     let mut unit = Unit::new(category);
     let mut text = Vec::new();
     for line in lines(input) {
-        write_event(unit.take(line), &mut text);
+        match line {
+            b"" => write_status(&unit.status(), &mut text),
+            _ => write_event(unit.take(line), &mut text),
+        }
     }
     write_status(&unit.status(), &mut text);
     text
@@ -39,6 +47,9 @@ pub fn write_event(event: Event, text: &mut Vec<u8>) {
     text.extend_from_slice(&[event[0], event[1], number[0], number[1], b'\n']);
 }
 
+/// The digits of a status line; neither an event nor a chart over has so many.
+pub const STATUS_DIGITS: usize = 12;
+
 pub fn write_status(status: &Status, text: &mut Vec<u8>) {
     let mask = status.over.iter().fold(0u16, |mask, over| mask | 1 << over.chart);
     encode(&[status.stage as u8], text);
@@ -55,6 +66,28 @@ pub fn write_status(status: &Status, text: &mut Vec<u8>) {
     }
 }
 
+/// What is printed for a line: for an empty one the status, for any other its event.
+#[derive(Clone, Debug, PartialEq, Eq)]
+pub enum Answer {
+    Event(Event),
+    Status(Status),
+}
+
+#[inline(always)]
+pub fn answer(unit: &mut fast::Unit, line: &[u8]) -> Answer {
+    match line {
+        b"" => Answer::Status(unit.status()),
+        _ => Answer::Event(unit.take(line)),
+    }
+}
+
+pub fn write_answer(answer: &Answer, text: &mut Vec<u8>) {
+    match answer {
+        Answer::Event(event) => write_event(*event, text),
+        Answer::Status(status) => write_status(status, text),
+    }
+}
+
 /// Output goes out in pieces of about this size.
 const PIECE: usize = 1 << 16;
 /// A line of so many bytes is too long for every category.
@@ -67,7 +100,7 @@ pub fn stream(
     output: &mut impl Write,
 ) -> io::Result<()> {
     let mut unit = fast::Unit::new(category);
-    let mut text = Vec::with_capacity(PIECE + 64);
+    let mut text = Vec::with_capacity(2 * PIECE);
     // The line that the last piece of input broke off, if any.
     let mut broken = Vec::with_capacity(TOO_LONG);
     loop {
@@ -76,17 +109,10 @@ pub fn stream(
             break;
         }
         let mut rest = piece;
-        while let Some((line, after)) = split_line(category, rest) {
+        while let Some((end, after)) = split_line(category, rest) {
             rest = after;
-            let event = if broken.is_empty() {
-                unit.take(line)
-            } else {
-                keep(&mut broken, line);
-                let event = unit.take(&broken);
-                broken.clear();
-                event
-            };
-            write_event(event, &mut text);
+            write_answer(&answer(&mut unit, whole(&mut broken, end)), &mut text);
+            broken.clear();
             if text.len() >= PIECE {
                 output.write_all(&text)?;
                 text.clear();
@@ -102,6 +128,15 @@ pub fn stream(
     write_status(&unit.status(), &mut text);
     output.write_all(&text)?;
     output.flush()
+}
+
+/// The line that ends here: all of it, or the end of a broken one, which may be empty.
+fn whole<'a>(broken: &'a mut Vec<u8>, end: &'a [u8]) -> &'a [u8] {
+    if broken.is_empty() {
+        return end;
+    }
+    keep(broken, end);
+    broken
 }
 
 /// The first line and what comes after its newline. Most lines have the category's length.

@@ -1,21 +1,11 @@
 //! The two modes answer alike, in each category and whatever pieces the input comes in.
 
-use std::io::BufReader;
+mod common;
 
+use common::{residue, streamed};
 use peer::category::Category;
-use peer::compound::Compound;
 use peer::lists::list;
-use peer::program::{stream, transcript};
-
-fn residue(compound: u8) -> Category {
-    Category::Residue(Compound::new(compound).unwrap())
-}
-
-fn streamed(category: Category, input: &[u8], piece: usize) -> Vec<u8> {
-    let mut output = Vec::new();
-    stream(category, &mut BufReader::with_capacity(piece, input), &mut output).unwrap();
-    output
-}
+use peer::program::transcript;
 
 fn assert_alike(category: Category, seed: u64, number: u64, piece: usize) {
     let input = list(category, seed, number);
@@ -40,21 +30,5 @@ fn residue_lists() {
         for number in 0..40 {
             assert_alike(residue(compound), 3, number, 4096);
         }
-    }
-}
-
-#[test]
-fn around_newlines() {
-    for (category, status) in [(Category::Food, "000000000000"), (residue(4), "020000000000")] {
-        for input in ["", "\n", "\n\n", "a", "a\n", "\na", "a\n\nb"] {
-            for piece in 1..4 {
-                let input = input.as_bytes();
-                assert_eq!(streamed(category, input, piece), transcript(category, input));
-            }
-        }
-        let printed = |events: &str| format!("{events}{status}\n").into_bytes();
-        assert_eq!(transcript(category, b""), printed(""));
-        assert_eq!(transcript(category, b"\n"), printed("0001\n"));
-        assert_eq!(transcript(category, b"a\n\nb"), printed("0001\n0001\n0001\n"));
     }
 }

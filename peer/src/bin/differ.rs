@@ -11,7 +11,7 @@ use std::time::Instant;
 use peer::arguments::{command, usage, words};
 use peer::category::Category;
 use peer::lists::list;
-use peer::program::{lines, transcript};
+use peer::program::{lines, transcript, STATUS_DIGITS};
 
 struct Program {
     category: Category,
@@ -96,17 +96,20 @@ impl Program {
     }
 }
 
-/// How often each event, refusal and stage at the end came up.
+/// How often each event, refusal and chart came up, and each stage at an empty line and at the end.
 #[derive(Default)]
 struct Tally(BTreeMap<String, usize>);
 
 impl Tally {
     fn add(&mut self, output: &[u8]) {
-        for line in lines(output).map(String::from_utf8_lossy) {
+        let printed: Vec<&[u8]> = lines(output).collect();
+        let end = printed.iter().rposition(|line| line.len() == STATUS_DIGITS);
+        for (place, line) in printed.into_iter().map(String::from_utf8_lossy).enumerate() {
             let met = match (line.len(), &line[..2]) {
                 (4, "00") => format!("refused {}", &line[2..]),
                 (4, event) => format!("event {event}"),
-                (12, stage) => format!("ended in stage {stage}"),
+                (STATUS_DIGITS, stage) if Some(place) == end => format!("ended in stage {stage}"),
+                (STATUS_DIGITS, stage) => format!("empty line in stage {stage}"),
                 (_, chart) => format!("shown chart {chart}"),
             };
             *self.0.entry(met).or_default() += 1;

@@ -8,7 +8,7 @@ use std::{fs, thread};
 
 use peer::arguments::{command, take_category, words};
 use peer::category::Category;
-use peer::program::lines;
+use peer::program::{ended, lines};
 use peer::view::answers::{parse, Answers};
 use peer::view::history::{history, History};
 use peer::view::{svg, text};
@@ -19,7 +19,7 @@ const USE: &str = "use: view [--residue COMPOUND] PROGRAM NAME LIST OUT.svg, \
 /// The program's answers to a list of lines.
 fn ask(program: &str, list: &[&[u8]]) -> Result<Answers, String> {
     let output = run(program, list).map_err(|error| format!("{program}: {error}"))?;
-    let answers = parse(&output, list.len());
+    let answers = parse(&output, list);
     answers.ok_or_else(|| format!("{program} does not print what the documents say"))
 }
 
@@ -27,12 +27,12 @@ fn ask(program: &str, list: &[&[u8]]) -> Result<Answers, String> {
 fn run(program: &str, list: &[&[u8]]) -> io::Result<Vec<u8>> {
     let mut child = command(program).stdin(Stdio::piped()).stdout(Stdio::piped()).spawn()?;
     let mut input = child.stdin.take().expect("its input is a pipe");
-    let whole: Vec<u8> = list.iter().flat_map(|line| [line, &b"\n"[..]].concat()).collect();
-    let ended = thread::scope(|scope| {
+    let whole = ended(list);
+    let output = thread::scope(|scope| {
         scope.spawn(move || input.write_all(&whole));
         child.wait_with_output()
     })?;
-    Ok(ended.stdout)
+    Ok(output.stdout)
 }
 
 fn read(category: Category, program: &str, list: &str) -> Result<History, String> {

@@ -6,7 +6,8 @@ use crate::draft::{Draft, Fields};
 use crate::unit::Event;
 
 impl Author {
-    /// A line, or more where a newline is in it, as far as the list goes.
+    /// A line, or more where a newline is in it, as far as the list goes, and now and then a look
+    /// at the status.
     pub(super) fn give(&mut self, text: &[u8]) {
         for line in text.split(|&byte| byte == b'\n') {
             if !self.more() {
@@ -15,9 +16,11 @@ impl Author {
             self.lines += 1;
             self.input.extend(line);
             self.input.push(b'\n');
-            if !matches!(self.unit.take(line), Event::Refused(_)) {
+            let event = self.unit.take(line);
+            if !matches!(event, Event::Refused(_)) {
                 (self.year, self.month) = self.unit.last_date();
             }
+            self.look_after(event);
         }
     }
 

@@ -8,7 +8,7 @@ use crate::unit::Stage;
 #[derive(Clone, Copy, PartialEq, Eq)]
 pub(super) enum Theme {
     Anything,
-    /// Charts that go over, with which the list may end: only then the status shows the run.
+    /// Charts that go over, with which the list may end: the status then shows the run.
     Shown,
     /// Sets at the edges of passing, and misses to come back to them.
     Sets,
@@ -38,7 +38,7 @@ impl Theme {
 impl Author {
     pub(super) fn episode(&mut self, theme: Theme) {
         match (self.unit.stage(), theme) {
-            // The status is printed only at the end. Some lists end where it must be zero.
+            // Some lists end where the status must be zero.
             (Stage::SecondSet | Stage::Accredited, _)
                 if self.samples() == 0 && self.random.percent(3) =>
             {

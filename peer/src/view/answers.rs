@@ -1,8 +1,8 @@
-//! The program's output read back: an event for each line, then the status.
+//! The program's output read back: an answer for each line, then the status.
 
 use crate::category::MOST_CHARTS;
 use crate::charts::{Over, Run};
-use crate::program::{lines, write_event, write_status};
+use crate::program::{lines, write_answer, write_status, Answer};
 use crate::refused::Refusal;
 use crate::unit::{Event, Stage, Status};
 
@@ -11,28 +11,52 @@ const STAGES: [Stage; 5] =
 
 #[derive(Clone, Debug, PartialEq, Eq)]
 pub struct Answers {
-    pub events: Vec<Event>,
+    /// One for each line of the list.
+    pub each: Vec<Answer>,
+    /// After the list.
     pub status: Status,
 }
 
-/// The output for a list of so many lines. Nothing if it does not have document 01's form: what
-/// was understood, written out again, must be the output byte for byte.
-pub fn parse(output: &[u8], count: usize) -> Option<Answers> {
-    let printed: Vec<&[u8]> = lines(output).collect();
-    let (events, rest) = printed.split_at_checked(count)?;
-    let (status, charts) = rest.split_first()?;
-    let events = events.iter().map(|line| event(line)).collect::<Option<Vec<Event>>>()?;
-    let over = charts.iter().map(|line| over(line)).collect::<Option<Vec<Over>>>()?;
-    let status = Status {
-        stage: *STAGES.get(number(status, 0..2)? as usize)?,
-        samples: number(status, 2..6)? as u16,
-        misses: number(status, 10..12)? == 1,
-        over,
+/// The output for a list. Nothing if it does not have the documents' form: what was understood,
+/// written out again, must be the output byte for byte.
+pub fn parse(output: &[u8], list: &[&[u8]]) -> Option<Answers> {
+    let mut printed = lines(output);
+    let answer = |line: &&[u8]| match *line {
+        b"" => status(&mut printed).map(Answer::Status),
+        _ => event(printed.next()?).map(Answer::Event),
     };
-    let mut again = Vec::new();
-    events.iter().for_each(|&event| write_event(event, &mut again));
-    write_status(&status, &mut again);
-    (again == output).then_some(Answers { events, status })
+    let each = list.iter().map(answer).collect::<Option<Vec<Answer>>>()?;
+    let answers = Answers { each, status: status(&mut printed)? };
+    (answers.text() == output).then_some(answers)
+}
+
+impl Answers {
+    /// The events of the lines that are not empty.
+    pub fn events(&self) -> impl Iterator<Item = Event> + '_ {
+        self.each.iter().filter_map(|answer| match answer {
+            Answer::Event(event) => Some(*event),
+            Answer::Status(_) => None,
+        })
+    }
+
+    fn text(&self) -> Vec<u8> {
+        let mut text = Vec::new();
+        self.each.iter().for_each(|answer| write_answer(answer, &mut text));
+        write_status(&self.status, &mut text);
+        text
+    }
+}
+
+/// A status line, and a line for each chart that it says is over.
+fn status<'a>(printed: &mut impl Iterator<Item = &'a [u8]>) -> Option<Status> {
+    let line = printed.next()?;
+    let charts = number(line, 6..10)?.count_ones() as usize;
+    Some(Status {
+        stage: *STAGES.get(number(line, 0..2)? as usize)?,
+        samples: number(line, 2..6)? as u16,
+        misses: number(line, 10..12)? == 1,
+        over: printed.take(charts).map(over).collect::<Option<Vec<Over>>>()?,
+    })
 }
 
 fn event(line: &[u8]) -> Option<Event> {
@@ -73,17 +97,43 @@ fn number(line: &[u8], at: std::ops::Range<usize>) -> Option<u32> {
 mod tests {
     use super::*;
 
+    const LINE: &[u8] = b"a line";
+
     #[test]
     fn only_whole_outputs_are_read() {
         let output = b"0600\n03000c010000\n080001000c00000035\n";
-        let answers = parse(output, 1).unwrap();
+        let answers = parse(output, &[LINE]).unwrap();
         let run = Run { first: 1, last: 12, sum: 53 };
-        assert_eq!(answers.events, [Event::ProbationByCharts]);
+        assert_eq!(answers.each, [Answer::Event(Event::ProbationByCharts)]);
         assert_eq!(answers.status.over, [Over { chart: 8, run }]);
-        assert_eq!(parse(output, 0), None);
-        assert_eq!(parse(output, 2), None);
-        assert_eq!(parse(&output[..output.len() - 1], 1), None);
-        assert_eq!(parse(b"0600\n03000c010000\n", 1), None);
-        assert_eq!(parse(b"0013\n000000000000\n", 1), None);
+        assert_eq!(parse(output, &[]), None);
+        assert_eq!(parse(output, &[LINE, LINE]), None);
+        assert_eq!(parse(output, &[b""]), None);
+        assert_eq!(parse(output, &[LINE, b""]), None);
+        assert_eq!(parse(&output[..output.len() - 1], &[LINE]), None);
+        assert_eq!(parse(b"0600\n03000c010000\n", &[LINE]), None);
+        assert_eq!(parse(b"0013\n000000000000\n", &[LINE]), None);
+    }
+
+    #[test]
+    fn an_empty_line_has_a_status_with_its_charts() {
+        let status = "030003000600\n01000100030000003c\n020001000300000030\n";
+        let output = format!("000000000000\n0600\n{status}0009\n{status}{status}");
+        let list: [&[u8]; 5] = [b"", LINE, b"", LINE, b""];
+        let answers = parse(output.as_bytes(), &list).unwrap();
+        let shown = Answer::Status(answers.status.clone());
+        assert_eq!(answers.status.over.iter().map(|over| over.chart).collect::<Vec<_>>(), [1, 2]);
+        assert_eq!((&answers.each[2], &answers.each[4]), (&shown, &shown));
+        assert_eq!(answers.events().count(), 2);
+        let dropped: Vec<&[u8]> = list.into_iter().filter(|line| !line.is_empty()).collect();
+        assert_eq!(parse(output.as_bytes(), &dropped), None);
+        // One chart fewer, another, one more, and no stage.
+        for spoiled in ["030003000200", "030003000500", "030003000e00", "050003000600"] {
+            let output = output.replacen("030003000600", spoiled, 1);
+            assert_eq!(parse(output.as_bytes(), &list), None, "{spoiled}");
+        }
+        for whole in status.split_inclusive('\n') {
+            assert_eq!(parse(output.replacen(whole, "", 1).as_bytes(), &list), None);
+        }
     }
 }

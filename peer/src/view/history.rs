@@ -3,11 +3,12 @@
 use crate::category::Category;
 use crate::charts::Over;
 use crate::fast::Unit;
+use crate::program::{answer, Answer};
 use crate::refused::Refusal;
 use crate::unit::{Event, Stage, Status};
 use crate::view::answers::Answers;
 
-/// A line of the list, numbered from 1, and its date.
+/// A line of the list, numbered from 1 with the empty ones, and its date.
 #[derive(Clone, Copy, Debug, PartialEq, Eq)]
 pub struct Mark {
     pub line: usize,
@@ -44,6 +45,7 @@ pub struct Admission {
 
 pub struct History {
     pub category: Category,
+    /// How many lines the unit was given: all that are not empty.
     pub lines: usize,
     /// How often each refusal was given, in the order of the table.
     pub refused: Vec<(Refusal, usize)>,
@@ -80,43 +82,60 @@ pub fn history(
     if category.first_stage() == Stage::Accredited {
         admissions.push(Admission::new(None));
     }
-    for (line, (text, &event)) in (1..).zip(list.iter().zip(&answers.events)) {
-        if peer.take(text) != event {
+    for (line, (text, theirs)) in (1..).zip(list.iter().zip(&answers.each)) {
+        let own = answer(&mut peer, text);
+        if own != *theirs {
             return Err(format!("line {line}: the program and the peer differ; see peer/check"));
         }
-        if matches!(event, Event::Refused(_)) {
-            continue;
-        }
+        let Some(event) = accepted(own) else { continue };
         let (year, month) = peer.last_date();
         let mark = Mark { line, year, month };
         if event == Event::Passed {
             admissions.push(Admission::new(Some(mark)));
         }
         let Some(admission) = admissions.last_mut() else { continue };
-        match event {
-            Event::Sample => admission.add(Sample { mark, values: peer.values().to_vec() }),
-            Event::ProbationByCharts => {
-                admission.add(Sample { mark, values: peer.values().to_vec() });
-                admission.end(mark, status_after(line)?);
-            }
-            Event::Missed => admission.misses.push(mark),
-            Event::ProbationByMisses => {
-                admission.misses.push(mark);
-                admission.probation = Some((mark, Ground::Misses));
-            }
-            _ => {}
+        admission.take(event, Sample { mark, values: peer.values().to_vec() });
+        if event == Event::ProbationByCharts {
+            admission.name(status_after(line)?);
         }
     }
     if peer.status() != answers.status {
         return Err("status: the program and the peer differ; see peer/check".into());
     }
-    let (lines, status) = (list.len(), answers.status.clone());
-    Ok(History { category, lines, refused: refused(&answers.events), admissions, status })
+    let events: Vec<Event> = answers.events().collect();
+    let (lines, refused, status) = (events.len(), refused(&events), answers.status.clone());
+    Ok(History { category, lines, refused, admissions, status })
+}
+
+/// The event of a line that was taken.
+fn accepted(answer: Answer) -> Option<Event> {
+    match answer {
+        Answer::Status(_) | Answer::Event(Event::Refused(_)) => None,
+        Answer::Event(event) => Some(event),
+    }
 }
 
 impl Admission {
     fn new(mark: Option<Mark>) -> Admission {
         Admission { mark, stretches: Vec::new(), misses: Vec::new(), probation: None }
+    }
+
+    /// A line that was taken. What it did to the charts counts only if it is a sample.
+    fn take(&mut self, event: Event, line: Sample) {
+        let mark = line.mark;
+        match event {
+            Event::Sample => self.add(line),
+            Event::ProbationByCharts => {
+                self.add(line);
+                self.probation = Some((mark, Ground::Charts));
+            }
+            Event::Missed => self.misses.push(mark),
+            Event::ProbationByMisses => {
+                self.misses.push(mark);
+                self.probation = Some((mark, Ground::Misses));
+            }
+            _ => {}
+        }
     }
 
     fn add(&mut self, sample: Sample) {
@@ -127,8 +146,7 @@ impl Admission {
     }
 
     /// Probation by charts: the status right after it names them.
-    fn end(&mut self, mark: Mark, status: Status) {
-        self.probation = Some((mark, Ground::Charts));
+    fn name(&mut self, status: Status) {
         if let Some(stretch) = self.stretches.last_mut() {
             stretch.over = status.over;
         }
@@ -146,7 +164,7 @@ pub mod tests {
     use super::*;
     use crate::category::MOST_CHARTS;
     use crate::charts::{Run, FOOD};
-    use crate::program::{lines, transcript};
+    use crate::program::{ended, lines, transcript};
     use crate::view::answers::parse;
 
     /// What a food list came to, with the peer as the program.
@@ -156,10 +174,9 @@ pub mod tests {
 
     pub fn of_case_in(category: Category, input: &[u8]) -> History {
         let list: Vec<&[u8]> = lines(input).collect();
-        let printed = |count: usize| transcript(category, &list[..count].join(&b'\n'));
-        let answers = |count: usize| parse(&printed(count), count);
-        let all = answers(list.len()).unwrap();
-        history(category, &list, &all, &mut |count| Ok(answers(count).unwrap().status)).unwrap()
+        let answers = |first: &[&[u8]]| parse(&transcript(category, &ended(first)), first).unwrap();
+        let status_after = &mut |count: usize| Ok(answers(&list[..count]).status);
+        history(category, &list, &answers(&list), status_after).unwrap()
     }
 
     #[test]
@@ -200,6 +217,17 @@ pub mod tests {
         assert_eq!(last.run(0), Some(Run { first: 4, last: 10, sum: 49 }));
         assert_eq!(last.run(3), Some(Run { first: 5, last: 10, sum: 12_000 }));
         assert_eq!((last.run(1), last.run(2)), (None, None));
+    }
+
+    #[test]
+    fn a_line_that_differs_is_numbered_as_the_list_stands() {
+        let output = b"020000000000\n0001\n020001000000\n020000000000\n";
+        let list: [&[u8]; 3] = [b"", b"\r", b""];
+        let answers = parse(output, &list).unwrap();
+        let status_after = &mut |_| Err("no one asks".into());
+        let said =
+            history(Category::tested_residue(), &list, &answers, status_after).err().unwrap();
+        assert!(said.starts_with("line 3: "), "{said}");
     }
 
     #[test]

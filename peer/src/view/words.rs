@@ -122,7 +122,7 @@ fn misses(misses: &[Mark]) -> String {
     format!("Missed: {before}{}.", dates.join(", "))
 }
 
-/// How many lines there were, and how often each refusal was given.
+/// How many lines there were, empty ones aside, and how often each refusal was given.
 pub fn lines_taken(history: &History) -> String {
     let refused: usize = history.refused.iter().map(|(_, times)| times).sum();
     let each = history.refused.iter().map(|(refusal, times)| {

@@ -136,6 +136,17 @@ impl Case {
         self.set(|_| month.study(), "0400")
     }
 
+    /// An empty line and the status there.
+    pub fn look(mut self, status: &[&str]) -> Case {
+        self.input.push(b'\n');
+        self.status(status)
+    }
+
+    /// The lines of a status.
+    pub fn status(self, lines: &[&str]) -> Case {
+        lines.iter().fold(self, |case, line| case.expect(line))
+    }
+
     /// A line of the output.
     pub fn expect(mut self, line: &str) -> Case {
         self.output.push_str(line);

@@ -18,7 +18,7 @@ use std::{fs, io};
 use peer::category::Category;
 use peer::charts::highest_run;
 use peer::digits::hexadecimal;
-use peer::program::{lines as split, read_back, stream, transcript};
+use peer::program::{lines as split, read_back, stream, transcript, STATUS_DIGITS};
 use peer::single::standardize;
 use peer::unit::Unit;
 
@@ -101,7 +101,7 @@ fn lines_table(text: &mut String, rows: &[Row]) {
 fn readme(cases: &[Case], food: &[Row], residue: &[Row], standard: &[standard::Row]) -> String {
     let mut text = String::from(README_START);
     for Case { name, shows, output, .. } in cases {
-        let status = output.lines().find(|line| line.len() == 12).unwrap_or_default();
+        let status = output.lines().rfind(|line| line.len() == STATUS_DIGITS).unwrap_or_default();
         let [list, _] = paths(name);
         let _ = writeln!(text, "| {name} | `{list}` | {status} | {shows} |");
     }
@@ -131,7 +131,7 @@ its list in `src/bin/cases` and held against both modes of the peer, but for the
 
 The lists whose names begin with `residue` are for `check_residue`, the others for `check_sample`.
 
-| list | file | status line | what it shows |
+| list | file | status line at the end | what it shows |
 |---|---|---|---|
 ";
 

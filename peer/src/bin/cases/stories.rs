@@ -6,6 +6,7 @@ mod misses;
 mod refusals;
 mod residue;
 mod sets;
+mod status;
 
 use crate::list::Case;
 
@@ -34,9 +35,11 @@ pub fn cases() -> Vec<Case> {
         inputs::unended(),
         inputs::lengths(),
         inputs::bytes(),
+        status::status(),
         residue::low_results(),
         residue::residue_charts(),
         residue::residue_misses(),
+        residue::residue_status(),
     ]
 }
 

@@ -15,8 +15,10 @@ pub fn empty() -> Case {
 }
 
 pub fn unended() -> Case {
-    let mut case = Case::new("unended", "The last line has no newline and counts.")
+    let shows = "The last line, which comes after an empty one, has no newline and counts.";
+    let mut case = Case::new("unended", shows)
         .line(FIELDS, "0301")
+        .look(&["000000000000"])
         .line(FIELDS, "0302")
         .expect("000000000000");
     case.input.pop();
@@ -38,11 +40,13 @@ pub fn bytes() -> Case {
     let text = FIELDS.text();
     Case::new(
         "bytes",
-        "Any bytes: an empty line, 68 times 00, 68 times ff, a line ended by a carriage return \
-         and a newline, a line of one space; a line counts before and after.",
+        "Any bytes: an empty line, which shows the status, a carriage return alone, which is \
+         refused 1, 68 times 00, 68 times ff, a line ended by a carriage return and a newline, a \
+         line of one space; a line counts before and after.",
     )
     .text(&text, "0301")
-    .text(b"", "0001")
+    .look(&["000000000000"])
+    .text(b"\r", "0001")
     .text(&[0x00; 68], "0002")
     .text(&[0xff; 68], "0002")
     .text(&[&text[..], b"\r"].concat(), "0001")

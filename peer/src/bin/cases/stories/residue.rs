@@ -132,8 +132,10 @@ pub fn residue_charts() -> Case {
         "2012: P (00) comes to its limit, 48, and stays there through every refusal but 8 and 12, \
          each followed by a sample that adds 0. 2013: a new stretch, V at its limit, 43. 2014: \
          the first sample sets P to -20; in October P is over with 49, run 4 to 10, the shortest \
-         of three, and D with 12,000, run 5 to 10. Then 8, but for lines that do not read.",
+         of three, and D with 12,000, run 5 to 10. Then 8, but for lines that do not read. The last \
+         line is empty and ended, so the status comes twice.",
     );
+    let over = ["03000a000900", "000004000a00000031", "030005000a00002ee0"];
     // 2013: d = 25, -25, 20 and 9. V adds 16, 16, 11 and 0; P is at 20, 0, 15 and 19.
     let year = at_the_limit(case)
         .line(off(2013, 1, 500), "0100")
@@ -149,9 +151,8 @@ pub fn residue_charts() -> Case {
         .line(Fields { compound: 19, ..after }, "000e")
         .line(Fields { tag: 2, ..after }, "0007")
         .line(off(2015, 1, 0), "0008")
-        .expect("03000a000900")
-        .expect("000004000a00000031")
-        .expect("030005000a00002ee0")
+        .look(&over)
+        .status(&over)
 }
 
 pub fn residue_misses() -> Case {
@@ -181,6 +182,39 @@ pub fn residue_misses() -> Case {
         .line(lost(2014, 4), "0008")
         .line(off(2015, 1, 0), "0008")
         .expect("030002000001");
+    case.input.pop();
+    case
+}
+
+/// Three samples with d = -25: each adds 20 to N (01) and 16 to V (02). After the third these are at
+/// 60 and 48, and both are over.
+pub fn residue_status() -> Case {
+    let case = Case::residue(
+        "residue-status",
+        "Empty lines show the status and change nothing: before any line, twice in a row, after a \
+         sample, a miss and a carriage return alone, which is refused 1, and on probation with \
+         two charts over, there also after a line refused 8. The last line comes after an empty \
+         one, has no newline and counts.",
+    );
+    let probation = ["030003000600", "01000100030000003c", "020001000300000030"];
+    let mut case = case
+        .look(&["020000000000"])
+        .look(&["020000000000"])
+        .line(off(2012, 1, -500), "0100")
+        .look(&["020001000000"])
+        .line(lost(2012, 1), "0200")
+        .look(&["020001000000"])
+        .text(b"\r", "0001")
+        .look(&["020001000000"])
+        .look(&["020001000000"])
+        .line(off(2012, 2, -500), "0100")
+        .look(&["020002000000"])
+        .line(off(2012, 3, -500), "0600")
+        .look(&probation)
+        .line(off(2012, 4, 0), "0008")
+        .look(&probation)
+        .line(off(2012, 5, 0), "0008")
+        .status(&probation);
     case.input.pop();
     case
 }
