@@ -44,13 +44,14 @@ zeros = replicate 12 48 ++ NEWLINE ∷ []
 short : List ℕ
 short = 48 ∷ 48 ∷ 48 ∷ 49 ∷ NEWLINE ∷ []
 
--- No input: the status alone. An empty line: the status there too. A carriage return alone is a line of length 1. One empty line before
--- a refused line, and two after it, where the input ends.
+-- No input: the status alone. An empty line: the status there too. A carriage return alone, and a space, is a line of length 1.
+-- One empty line before a refused line, and two after it, where the input ends.
 shows : (transcript newUnit [] ≡ zeros) × (transcript newUnit (10 ∷ []) ≡ zeros ++ zeros)
     × (transcript newUnit (13 ∷ 10 ∷ []) ≡ short ++ zeros)
+    × (transcript newUnit (32 ∷ 10 ∷ []) ≡ short ++ zeros)
     × (transcript newUnit (10 ∷ 48 ∷ 10 ∷ 10 ∷ 10 ∷ []) ≡ zeros ++ short ++ zeros ++ zeros ++ zeros)
 unfolding zeros short endedAfter restAfter isDigit digitOf digitsOf firstRow takenIn statusBy chartText runTexts
-shows = (refl, refl, refl, refl)
+shows = (refl, refl, refl, refl, refl)
 
 -- Two empty lines, and outputs with room for one status each: each call takes one of them.
 taken : (takenBy (newConsole newUnit) (10 ∷ 10 ∷ []) (STATUS ∷ STATUS ∷ []) ≡ (10 ∷ []) ∷ (10 ∷ []) ∷ [])
