@@ -2,4 +2,5 @@
 pub mod Table
 pub mod Witness
 pub mod Residue
+pub mod Windows
 pub mod Program

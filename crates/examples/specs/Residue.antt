@@ -9,7 +9,7 @@ use lib.Dec.{lit<}
 use lib.IntN.{ℤ, pos, negℤ}
 use lib.ListN.{replicate}
 use Rattle.grounds.specs.Chart.{nextValue, nextFirst, over, valueAfter}
-use Rattle.grounds.specs.Claim.{TwoMisses, SomeRun, RightRun}
+use Rattle.grounds.specs.Claim.{TwoMisses, Misidentified, SomeRun, RightRun}
 use Rattle.grounds.specs.Entry.{Entry, misses, stretch, onChart}
 use Rattle.digits.specs.Digits.{isDigit, digitValue, digitOf, areDigits, bytesOf, digitsOf}
 use Rattle.digits.specs.Signed.{signedBy}
@@ -45,9 +45,9 @@ compound = 4
 abbrev pub category : Category
 category = Residue compound
 
--- A line with no misidentification, by its year, month, days, compound, tag and result log. The comparison log is -0.500.
-abbrev pub lineWith : ℕ → ℕ → ℕ → ℕ → ℕ → ℤ → List ℕ
-lineWith year month days of tag result = digitsOf (bytesIn (record {
+-- A line by its misidentification count, year, month, days, compound, tag and result log. The comparison log is -0.500.
+abbrev pub countedLine : ℕ → ℕ → ℕ → ℕ → ℕ → ℕ → ℤ → List ℕ
+countedLine count year month days of tag result = digitsOf (bytesIn (record {
   kind = RESIDUE-KIND;
   year = year;
   month = month;
@@ -56,8 +56,12 @@ lineWith year month days of tag result = digitsOf (bytesIn (record {
   comparison = negℤ (pos 500);
   tag = tag;
   result = result;
-  count = 0;
+  count = count;
 }))
+
+-- one with no misidentification
+abbrev pub lineWith : ℕ → ℕ → ℕ → ℕ → ℕ → ℤ → List ℕ
+lineWith = countedLine 0
 
 -- a result of 2013 after ten days
 abbrev pub sampleOf : ℕ → ℕ → ℤ → List ℕ
@@ -150,10 +154,10 @@ pub record Residues : Type 0 where
   -- Nothing is opened, named or shown.
   pub calm-opened : opened calm ≡ false
   pub calm-status : (shown calm .stage ≡ 2) × (shown calm .samples ≡ 12) × (shown calm .mask ≡ 0) × (shown calm .misses ≡ false)
-  -- so, by the claim, there are no two such misses and no such run on any chart
-  pub calm-holds : ¬ (TwoMisses (entries calm) ⊎ ((c : ℕ) × (c < chartsIn residue) × SomeRun (limit residue) (entries calm) c))
+  -- so, by the claim, there are no two such misses, no window with too many misidentifications and no such run on any chart
+  pub calm-holds : ¬ (TwoMisses (entries calm) ⊎ Misidentified (entries calm) ⊎ ((c : ℕ) × (c < chartsIn residue) × SomeRun (limit residue) (entries calm) c))
 
-claim-of : (ls : List (List ℕ)) → ClaimOf category ls (shown ls)
+pub claim-of : (ls : List (List ℕ)) → ClaimOf category ls (shown ls)
 claim-of ls = claim-holds category ls (replay category ls) refl
 
 pub residues : Residues

@@ -11,7 +11,7 @@ use lib.Ieee.{ofBits, toBits}
 use lib.IntN.{pos, negℤ}
 use lib.ListN.{replicate}
 use Rattle.grounds.specs.Chart.{nextValue, nextFirst}
-use Rattle.grounds.specs.Claim.{TwoMisses, SomeRun, RightRun}
+use Rattle.grounds.specs.Claim.{TwoMisses, Misidentified, SomeRun, RightRun}
 use Rattle.grounds.specs.Entry.{Entry, misses, stretch, onChart, years}
 use Rattle.digits.specs.Digits.{isDigit, digitValue, digitOf, areDigits, bytesOf, digitsOf}
 use Rattle.field.specs.Refused.{PERCENT, LOST, kindRow, dateRow, productRow, meanRow, readingRow, MAINTENANCE, STUDY}
@@ -156,8 +156,8 @@ pub record Witness : Type 0 where
   -- Nothing is opened, named or shown.
   pub calm-opened : opened calm ≡ false
   pub calm-status : Status calm 2 12 0 false
-  -- so, by the claim, there are no two such misses and no such run on any chart
-  pub calm-holds : ¬ (TwoMisses (entries calm) ⊎ ((c : ℕ) × (c < chartsIn food) × SomeRun (limit food) (entries calm) c))
+  -- so, by the claim, there are no two such misses, no window with too many misidentifications and no such run on any chart
+  pub calm-holds : ¬ (TwoMisses (entries calm) ⊎ Misidentified (entries calm) ⊎ ((c : ℕ) × (c < chartsIn food) × SomeRun (limit food) (entries calm) c))
 
 claim-of : (ls : List (List ℕ)) → ClaimOf Food ls (statusOf (replay Food ls))
 claim-of ls = claim-holds Food ls (replay Food ls) refl

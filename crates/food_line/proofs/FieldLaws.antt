@@ -7,7 +7,8 @@ use native.Mathlib.Omega.{arith}
 use lib.ListN.{length, getD, set}
 use lib.Seq.{sets}
 use Rattle.digits.specs.Numbers.{AreBytes, oneAt, twoAt, numberBytes}
-use Rattle.format.proofs.Parts.{tabulate, tabulated, two-split, four-split}
+use Rattle.laws.proofs.Lists.{tabulated}
+use Rattle.format.proofs.Parts.{two-split, four-split}
 use Rattle.food_line.specs.Fields.{lineBytes, tagged, bytes5, bytesIn, fieldsIn}
 use Rattle.food_line.specs.declared.fields.Fields.{Fields}
 use Rattle.field.specs.declared.Tagged.{Tagged}
@@ -95,6 +96,5 @@ module _ (bs : List ℕ) (A : AreBytes bs) where
   bytes-back e =
       let two = two-split bs A in
       sym
-      (tabulated bs
-      ∙ ap (λ (n : ℕ). tabulate n (λ k. getD bs k 0)) e
+      (tabulated lineBytes bs e
       ∙ gather (fieldsIn bs) (two 1) (two 6) (two 8) (two 10) (two 12) (tagged-split 14) (tagged-split 19) (tagged-split 24) (tagged-split 29))

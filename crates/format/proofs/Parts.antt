@@ -1,24 +1,14 @@
--- The parts of a line's bytes: bytes by their places, and the two or four of a number. Assumes nothing.
-use Prim.Native.Nat.{ℕ, zero, suc, _+_, _^_, _<_}
-use mathlib.Core.Path.{_≡_, refl, sym, ap}
+-- The parts of a line's bytes: the two or four of a number. Assumes nothing.
+use Prim.Native.Nat.{ℕ, _+_, _^_, _<_}
+use mathlib.Core.Path.{_≡_, sym}
 use mathlib.Core.List.{List, [], _∷_}
 use lib.IntN.{ℤ}
-use lib.ListN.{length, getD}
+use lib.ListN.{getD}
 use lib.Signed.{mag}
 use Rattle.digits.specs.Numbers.{BYTE, AreBytes, twoAt, fourAt, numberBytes}
 use Rattle.digits.specs.Signed.{half, unsignedBy, signedTwoAt, signedBytes}
 use Rattle.digits.proofs.NumberLaws.{byte-at, number-lt, bytes-back, numberBytes-are}
 use Rattle.digits.proofs.SignedLaws.{unsigned-lt, signed-bytes-back}
-
--- ---- bytes by their places
-
-abbrev pub tabulate : ℕ → (ℕ → ℕ) → List ℕ
-tabulate zero f = []
-tabulate (suc n) f = f 0 ∷ tabulate n (λ k. f (suc k))
-
-pub tabulated : (l : List ℕ) → l ≡ tabulate (length l) (λ k. getD l k 0)
-tabulated [] = refl
-tabulated (a ∷ l) = ap (λ (m : List ℕ). a ∷ m) (tabulated l)
 
 -- ---- the bytes from a place on are those of the number that they make
 

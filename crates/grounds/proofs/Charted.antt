@@ -115,7 +115,7 @@ earlier limit xs z n m h a = record {
 }
 
 module _ (K : ℕ) (limit : ℕ → ℤ) (low : Low K limit) (es : List Entry) (s : Charts) (old : Charted K limit es s)
-    (quiet : (c : ℕ) → c < K → over (limit c) (s .value c) ≡ false) (year : ℕ) (x : ℕ → ℤ) (order : s .year ≤ year) (t : Charts) (moved : Moved K year x s t) where
+    (quiet : (c : ℕ) → c < K → over (limit c) (s .value c) ≡ false) (year count : ℕ) (x : ℕ → ℤ) (order : s .year ≤ year) (t : Charts) (moved : Moved K year x s t) where
   no-run-before : (c y n m : ℕ) {A : Type 0} → c < K → RunAbove limit es c y n m → A
   no-run-before c y n m h a = absurd (let e : true ≡ false = sym (over-by-run K limit low es s old c y n m h a) ∙ quiet c h in subst T e tt)
 
@@ -125,11 +125,11 @@ module _ (K : ℕ) (limit : ℕ → ℤ) (low : Low K limit) (es : List Entry) (
   number : t .samples ≡ suc (length (stretch year es))
   number = moved .number ∙ ap suc (start .number)
 
-  ends-last : (b : Bool) (c y n m : ℕ) → eqb year y ≡ b → c < K → RunAbove limit (es ++ sample year x ∷ []) c y n m → (y ≡ t .year) × (m ≡ t .samples)
+  ends-last : (b : Bool) (c y n m : ℕ) → eqb year y ≡ b → c < K → RunAbove limit (es ++ sample year count x ∷ []) c y n m → (y ≡ t .year) × (m ≡ t .samples)
   ends-last true c y n m e h a =
       let q : year ≡ y = eqb-true year y e in
       let xs = onChart c (stretch year es) in
-      let b : Above (limit c) (xs ++ x c ∷ []) n m = rw (← q, chart-sample es year x c) at a in
+      let b : Above (limit c) (xs ++ x c ∷ []) n m = rw (← q, chart-sample es year count x c) at a in
       let long : length xs ≡ length (stretch year es) = length-map (stretch year es) (λ (z : ℕ → ℤ). z c) in (
         sym q ∙ sym (moved .year-is),
         ⊎-elim
@@ -137,13 +137,13 @@ module _ (K : ℕ) (limit : ℕ → ℤ) (low : Low K limit) (es : List Entry) (
             (λ (k : m < suc (length xs)). no-run-before c year n m h (earlier (limit c) xs (x c) n m (omega arith) b))
             (eq-or-lt-of-le (omega (arith, b .run .within, length-append xs (x c ∷ [])))),
       )
-  ends-last false c y n m e h a = no-run-before c y n m h (rw (stretch-other es year x y (eqb-false year y e)) at a)
+  ends-last false c y n m e h a = no-run-before c y n m h (rw (stretch-other es year count x y (eqb-false year y e)) at a)
 
-  pub charted-sample : Charted K limit (es ++ sample year x ∷ []) t
+  pub charted-sample : Charted K limit (es ++ sample year count x ∷ []) t
   charted-sample = record {
     number = rw (moved .year-is, stretch-sample, length-append, add-one) number;
-    values = λ c h. rw (moved .year-is, chart-sample es year x c, value-more, length-map, ← (start .number)) (moved .values c h ∙ start .values c h (x c));
-    firsts = λ c h. rw (moved .year-is, chart-sample es year x c, first-more, length-map, ← (start .number)) (moved .firsts c h ∙ start .firsts c h);
-    latest = λ y h. (let later : year < y = omega (arith, moved .year-is) in stretch-other es year x y (omega arith) ∙ old .latest y (omega arith));
+    values = λ c h. rw (moved .year-is, chart-sample es year count x c, value-more, length-map, ← (start .number)) (moved .values c h ∙ start .values c h (x c));
+    firsts = λ c h. rw (moved .year-is, chart-sample es year count x c, first-more, length-map, ← (start .number)) (moved .firsts c h ∙ start .firsts c h);
+    latest = λ y h. (let later : year < y = omega (arith, moved .year-is) in stretch-other es year count x y (omega arith) ∙ old .latest y (omega arith));
     only = λ c y n m h a. ends-last (eqb year y) c y n m refl h a;
   }

@@ -1,5 +1,5 @@
--- The claim, from its two parts: the charts' and the misses'. What a state shows of a chart that is over is, by the chart law, the best run that
--- ends at the last sample.
+-- The claim, from its three parts: the charts', the misses' and the misidentifications'. What a state shows of a chart that is over is, by the chart law,
+-- the best run that ends at the last sample.
 use mathlib.Core.Path.{_≡_, refl, sym, _∙_}
 use mathlib.Core.Bool.{Bool, true, false}
 use mathlib.Core.List.{List}
@@ -11,16 +11,19 @@ use lib.Signed.{ltZ, _≤ℤ_, _<ℤ_}
 use Rattle.laws.proofs.Order.{zarith}
 use Rattle.grounds.specs.Chart.{over, valueAfter, firstAfter}
 use Rattle.grounds.specs.Run.{runSum}
-use Rattle.grounds.specs.Entry.{Entry, misses, stretch, onChart}
-use Rattle.grounds.specs.Claim.{TwoMisses, SomeRun, RightRun, Grounds, Claim}
+use Rattle.grounds.specs.Earlier.{isBroken}
+use Rattle.grounds.specs.Entry.{Entry, misses, counts, stretch, onChart}
+use Rattle.grounds.specs.Claim.{TwoMisses, Misidentified, SomeRun, RightRun, Grounds, Claim}
 use Rattle.grounds.proofs.Chart.{chart-law}
+use Rattle.grounds.proofs.Counted.{Counted}
 use Rattle.grounds.proofs.Missed.{Missed}
 use Rattle.grounds.proofs.Charted.{Charts, Charted, Low, number-on, over-by-run}
 
 -- what is named and shown is the state's
-pub record Shows (K : ℕ) (limit : ℕ → ℤ) (s : Charts) (two : Bool) (shown : Grounds) : Type 0 where
-  pub opened : shown .opened ≡ true ↔ ((shown .misses ≡ true) ⊎ ((c : ℕ) × (c < K) × (shown .over c ≡ true)))
+pub record Shows (K : ℕ) (limit : ℕ → ℤ) (s : Charts) (two : Bool) (latest : List ℕ) (shown : Grounds) : Type 0 where
+  pub opened : shown .opened ≡ true ↔ ((shown .misses ≡ true) ⊎ (shown .misidentified ≡ true) ⊎ ((c : ℕ) × (c < K) × (shown .over c ≡ true)))
   pub misses : shown .misses ≡ two
+  pub misidentified : shown .misidentified ≡ isBroken latest
   pub over-is : (c : ℕ) → c < K → shown .over c ≡ over (limit c) (s .value c)
   pub others : (c : ℕ) → K ≤ c → shown .over c ≡ false
   pub first : (c : ℕ) → c < K → shown .over c ≡ true → shown .first c ≡ s .first c
@@ -56,13 +59,16 @@ module _ (K : ℕ) (limit : ℕ → ℤ) (low : Low K limit) (es : List Entry) (
             (best .highest n (a .run)) (best .shortest n (a .run));
       })
 
-  pub claim : (last : ℕ) (two : Bool) → Missed (misses es) last two → (shown : Grounds) → Shows K limit s two shown → Claim K limit es shown
-  claim last two m shown shows = record {
+  pub claim : (last : ℕ) (two : Bool) → Missed (misses es) last two → (latest : List ℕ) → Counted (counts es) latest
+      → (shown : Grounds) → Shows K limit s two latest shown → Claim K limit es shown
+  claim last two m latest n shown shows = record {
     opened = (
-      λ o. ⊎-elim (λ e. inl (two-misses .0 e)) (λ p. inr (p .0, p .1, charts (p .0) (p .1) .0 (p .2))) (shows .opened .0 o),
-      ⊎-elim (λ t. shows .opened .1 (inl (two-misses .1 t))) (λ p. shows .opened .1 (inr (p .0, p .1, charts (p .0) (p .1) .1 (p .2)))),
+      λ o. ⊎-elim (λ e. inl (two-misses .0 e)) (⊎-elim (λ e. inr (inl (too-many .0 e))) (λ p. inr (inr (p .0, p .1, charts (p .0) (p .1) .0 (p .2))))) (shows .opened .0 o),
+      ⊎-elim (λ t. shows .opened .1 (inl (two-misses .1 t)))
+          (⊎-elim (λ t. shows .opened .1 (inr (inl (too-many .1 t)))) (λ p. shows .opened .1 (inr (inr (p .0, p .1, charts (p .0) (p .1) .1 (p .2)))))),
     );
     misses = two-misses;
+    misidentified = too-many;
     charts = charts;
     others = shows .others;
     runs = λ c h o. rw (shows .first c h o, shows .last c h o, shows .value c h o) (right-run c h (sym (shows .over-is c h) ∙ o));
@@ -70,6 +76,9 @@ module _ (K : ℕ) (limit : ℕ → ℤ) (low : Low K limit) (es : List Entry) (
     where
       two-misses : shown .misses ≡ true ↔ TwoMisses es
       two-misses = rw (shows .misses) (m .named)
+
+      too-many : shown .misidentified ≡ true ↔ Misidentified es
+      too-many = rw (shows .misidentified) (n .named)
 
       charts : (c : ℕ) → c < K → (shown .over c ≡ true ↔ SomeRun limit es c)
       charts c h = (

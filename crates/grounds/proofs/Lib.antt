@@ -4,5 +4,7 @@ pub mod Chart
 pub mod Entry
 pub mod Years
 pub mod Missed
+pub mod Window
+pub mod Counted
 pub mod Charted
 pub mod Claim

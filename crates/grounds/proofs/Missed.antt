@@ -14,7 +14,7 @@ use borrow.Author.Tests.{leb-true, le-leb}
 use Rattle.laws.proofs.Lists.{length-more, last-more, before-more, AtMost, at-most-more}
 use Rattle.grounds.specs.Entry.{Entry, missed, sample, misses}
 use Rattle.grounds.specs.Earlier.{again}
-use Rattle.grounds.specs.Miss.{window, TwoNear}
+use Rattle.grounds.specs.Miss.{APART, TwoNear}
 use Rattle.grounds.proofs.Entry.{misses-missed, misses-sample}
 
 -- the state is that of the months of the misses
@@ -34,7 +34,7 @@ missed-none = record {
 }
 
 -- one more miss, no earlier than the last, where no two were near before
-module _ (ms : List ℕ) (last m : ℕ) (old : Missed ms last false) (order : last ≤ m) (real : window < m) where
+module _ (ms : List ℕ) (last m : ℕ) (old : Missed ms last false) (order : last ≤ m) (real : APART < m) where
   to-two : again last m ≡ true → TwoNear (ms ++ m ∷ [])
   to-two e =
       let p = old .there (omega (arith, leb-true)) in
@@ -70,8 +70,8 @@ module _ (ms : List ℕ) (last m : ℕ) (old : Missed ms last false) (order : la
   }
 
 -- the same over entries; a sample is no miss
-pub missed-missed : (es : List Entry) (last m : ℕ) → Missed (misses es) last false → last ≤ m → window < m → Missed (misses (es ++ missed m ∷ [])) m (again last m)
+pub missed-missed : (es : List Entry) (last m : ℕ) → Missed (misses es) last false → last ≤ m → APART < m → Missed (misses (es ++ missed m ∷ [])) m (again last m)
 missed-missed es last m old order real = rw (misses-missed es m) (missed-more (misses es) last m old order real)
 
-pub missed-sample : (es : List Entry) (last : ℕ) (two : Bool) (year : ℕ) (x : ℕ → ℤ) → Missed (misses es) last two → Missed (misses (es ++ sample year x ∷ [])) last two
-missed-sample es last two year x old = rw (misses-sample es year x) old
+pub missed-sample : (es : List Entry) (last : ℕ) (two : Bool) (year count : ℕ) (x : ℕ → ℤ) → Missed (misses es) last two → Missed (misses (es ++ sample year count x ∷ [])) last two
+missed-sample es last two year count x old = rw (misses-sample es year count x) old

@@ -4,5 +4,6 @@ pub mod Run
 pub mod ChartLaw
 pub mod Entry
 pub mod Miss
+pub mod Window
 pub mod Earlier
 pub mod Claim

@@ -3,12 +3,12 @@ use mathlib.Core.List.{List}
 use Prim.Native.Nat.{ℕ, _+_, _≤_, _<_, min, max}
 use lib.ListN.{length, getD}
 
-abbrev pub window : ℕ
-window = 11
+abbrev pub APART : ℕ
+APART = 11
 
 -- two months at most that far apart, whichever is the later
 abbrev pub Near : ℕ → ℕ → Type 0
-Near a b = max a b ≤ min a b + window
+Near a b = max a b ≤ min a b + APART
 
 -- two different places in a list of months, that near
 pub record TwoNear (months : List ℕ) : Type 0 where

@@ -1,9 +1,9 @@
--- Lists grown at their end, and lists of one element many times. Assumes nothing.
+-- Lists grown at their end, lists by their places, and lists of one element many times. Assumes nothing.
 use Prim.Native.Nat.{ℕ, zero, suc, _≤_, _<_}
-use mathlib.Core.Path.{_≡_, refl, _∙_}
+use mathlib.Core.Path.{_≡_, refl, ap, _∙_}
 use mathlib.Core.List.{List, [], _∷_, _++_, append-nil}
 use mathlib.Core.Logic.{⊎-elim}
-use native.Mathlib.Nat.{eq-or-lt-of-le}
+use native.Mathlib.Nat.{eq-or-lt-of-le, suc-inj}
 use native.Mathlib.Numerals.{add-one}
 use native.Mathlib.Omega.{arith}
 use lib.ListN.{length, getD, replicate, length-append, List·getD-append}
@@ -38,6 +38,17 @@ at-most-more ns most n old h i l = ⊎-elim
     (λ (e : i ≡ length ns). omega (arith, rw (← e) at (last-more ns n)))
     (λ (k : i < length ns). omega (arith, before-more ns n i k, old i k))
     (eq-or-lt-of-le (omega (arith, length-more ns n)))
+
+-- a list of n numbers by their places
+abbrev pub tabulate : ℕ → (ℕ → ℕ) → List ℕ
+tabulate zero f = []
+tabulate (suc n) f = f 0 ∷ tabulate n (λ k. f (suc k))
+
+pub tabulated : (n : ℕ) (l : List ℕ) → length l ≡ n → l ≡ tabulate n (λ k. getD l k 0)
+tabulated zero [] e = refl
+tabulated zero (a ∷ l) e = absurd (omega arith)
+tabulated (suc n) [] e = absurd (omega arith)
+tabulated (suc n) (a ∷ l) e = ap (λ (m : List ℕ). a ∷ m) (tabulated n l (suc-inj e))
 
 -- one element many times: it stands at every place, and is what stands beyond
 pub same-at : {A : Type 0} (n i : ℕ) (a : A) → getD (replicate n a) i a ≡ a

@@ -16,4 +16,6 @@ pub enum Event {
     ByCharts,
     // Probation by misses.
     ByMisses,
+    // Probation by misidentifications.
+    ByMisidentifications,
 }

@@ -1,12 +1,13 @@
 -- Fields, bytes and records: the parts of the 12 bytes. Assumes nothing.
 use Prim.Native.Nat.{ℕ}
-use mathlib.Core.Path.{_≡_, sym, ap, _∙_}
+use mathlib.Core.Path.{_≡_, sym, _∙_}
 use mathlib.Core.List.{List, [], _∷_}
 use lib.IntN.{ℤ}
 use lib.ListN.{length, getD}
 use Rattle.digits.specs.Numbers.{AreBytes, oneAt, twoAt, numberBytes}
 use Rattle.digits.specs.Signed.{signedTwoAt, signedBytes}
-use Rattle.format.proofs.Parts.{tabulate, tabulated, two-split, signed-split}
+use Rattle.laws.proofs.Lists.{tabulated}
+use Rattle.format.proofs.Parts.{two-split, signed-split}
 use Rattle.residue_line.specs.Fields.{lineBytes, bytesIn, fieldsIn}
 use Rattle.residue_line.specs.declared.fields.Fields.{Fields}
 
@@ -24,6 +25,5 @@ gathered f ey ec er = rw (ey, ec, er)
 pub bytes-back : (bs : List ℕ) → AreBytes bs → length bs ≡ lineBytes → bytesIn (fieldsIn bs) ≡ bs
 bytes-back bs A e =
     sym
-    (tabulated bs
-    ∙ ap (λ (n : ℕ). tabulate n (λ k. getD bs k 0)) e
+    (tabulated lineBytes bs e
     ∙ gathered (fieldsIn bs) (two-split bs A 1) (signed-split bs A 6) (signed-split bs A 9))

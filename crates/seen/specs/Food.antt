@@ -50,9 +50,17 @@ byAnalyte f r =
     ∷ f (r .product) 3 (r .means .salt) (r .readings .salt)
     ∷ []
 
--- Kind 02 is a study line.
+-- Kind 02 is a study line. A line of food chemistry has no misidentifications.
 abbrev pub seenWith : List Difference → Record → Seen
-seenWith ds r = record { study = eqb (r .kind) STUDY; year = r .year; month = monthNumber (r .year) (r .month); missed = missed r; differences = ds }
+seenWith ds r =
+    record {
+      study = eqb (r .kind) STUDY;
+      year = r .year;
+      month = monthNumber (r .year) (r .month);
+      missed = missed r;
+      count = 0;
+      differences = ds;
+    }
 
 -- what a record that was read is to the unit
 abbrev pub seenOf : Record → Seen

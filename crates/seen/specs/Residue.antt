@@ -1,4 +1,5 @@
--- Document 02, request One: what a residue record is to the unit. Its month number, whether it is missed, and its difference.
+-- Document 02, requests One and Three: what a residue record is to the unit. Its month number, whether it is missed, its misidentification count and its
+-- difference.
 use Prim.Native.Nat.{ℕ}
 use mathlib.Core.Bool.{Bool, true, false, _||_}
 use mathlib.Core.List.{List, [], _∷_}
@@ -31,4 +32,12 @@ differencesOf r = differenceFor (r .compound) (r .comparison) (r .result) ∷ no
 
 -- Kind 03 stands for maintenance: no line of residues is a study line.
 abbrev pub seenOf : Record → Seen
-seenOf r = record { study = false; year = r .year; month = monthNumber (r .year) (r .month); missed = missed r; differences = differencesOf r }
+seenOf r =
+    record {
+      study = false;
+      year = r .year;
+      month = monthNumber (r .year) (r .month);
+      missed = missed r;
+      count = r .count;
+      differences = differencesOf r;
+    }

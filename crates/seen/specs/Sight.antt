@@ -13,7 +13,7 @@ use Rattle.seen.specs.declared.Sight.{Sight}
 
 -- nothing is seen
 abbrev pub nothing : Seen
-nothing = record { study = false; year = 0; month = 0; missed = false; differences = replicate ANALYTES noDifference }
+nothing = record { study = false; year = 0; month = 0; missed = false; count = 0; differences = replicate ANALYTES noDifference }
 
 -- by the first row that fits, 0 for none
 unfoldable pub sightBy : ℕ → Seen → Sight

@@ -100,6 +100,7 @@ fn see_record(r: Record) -> Seen
         year: r.year,
         month: month_number(r.year, r.month),
         missed: is_missed(r),
+        count: 0,
         differences,
     }
 }

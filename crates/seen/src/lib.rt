@@ -11,12 +11,14 @@ use residue::see_residue;
 ghost use mathlib.Core.Path.{_≡_};
 ghost use Rattle.seen.specs.Sight.{nothing, sightOf};
 
-// Study or maintenance, the year and the month number, missed or not, and the analytes' differences.
+// Study or maintenance, the year and the month number, missed or not, the misidentification count, and
+// the analytes' differences.
 pub struct Seen {
     pub study: bool,
     pub year: u16,
     pub month: u32,
     pub missed: bool,
+    pub count: u8,
     pub differences: [Difference; ANALYTES],
 }
 
@@ -37,6 +39,7 @@ fn see_nothing() -> Seen
         year: 0,
         month: 0,
         missed: false,
+        count: 0,
         differences: [none; ANALYTES],
     }
 }

@@ -52,6 +52,7 @@ fn see_record(r: Record) -> Seen
         year: r.year,
         month: month_number(r.year, r.month),
         missed: is_lost(result) | is_late(r.days),
+        count: r.count,
         differences,
     }
 }

@@ -6,16 +6,16 @@ use lib.IntN.{pos, negsuc}
 use lib.ListN.{replicate}
 use Rattle.digits.specs.Digits.{digitOf, digitsOf}
 use Rattle.reply.specs.Report.{noReport}
-use Rattle.reply.specs.declared.event.Event.the-variants.{Refused, UnderWay, ByMisses}
+use Rattle.reply.specs.declared.event.Event.the-variants.{Refused, UnderWay, ByMisses, ByMisidentifications}
 use Rattle.reply.specs.declared.report.Report.{Report}
 use Rattle.reply.specs.declared.report.ChartReport.{ChartReport}
 use Rattle.text.specs.Text.{answerText, chartText, runTexts, statusText}
 
--- 0001, 030c, 0700
+-- 0001, 030c, 0700, 0800
 answers : (answerText (Refused 1) ≡ 48 ∷ 48 ∷ 48 ∷ 49 ∷ 10 ∷ []) × (answerText (UnderWay 12) ≡ 48 ∷ 51 ∷ 48 ∷ 99 ∷ 10 ∷ [])
-    × (answerText ByMisses ≡ 48 ∷ 55 ∷ 48 ∷ 48 ∷ 10 ∷ [])
+    × (answerText ByMisses ≡ 48 ∷ 55 ∷ 48 ∷ 48 ∷ 10 ∷ []) × (answerText ByMisidentifications ≡ 48 ∷ 56 ∷ 48 ∷ 48 ∷ 10 ∷ [])
 unfolding digitsOf digitOf
-answers = (refl, refl, refl)
+answers = (refl, refl, refl, refl)
 
 -- charts 1 and 9 are over: their lines follow the status line, the lower first
 run : ChartReport

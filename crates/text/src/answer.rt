@@ -24,6 +24,7 @@ fn bytes_of(event: Event) -> [u8; 2]
         Event::Failed => [5, 0],
         Event::ByCharts => [6, 0],
         Event::ByMisses => [7, 0],
+        Event::ByMisidentifications => [8, 0],
     }
 }
 

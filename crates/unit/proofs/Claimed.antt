@@ -7,6 +7,7 @@ use mathlib.Core.List.{List, [], _∷_, _++_, append-nil, append-assoc}
 use native.Mathlib.Omega.{arith}
 use lib.Seq.{append-snoc}
 use Rattle.difference.specs.declared.constants.Constants.{Constants}
+use Rattle.grounds.specs.Earlier.{noCounts, isBroken}
 use Rattle.grounds.proofs.Claim.{Shows, claim}
 use Rattle.laws.proofs.Bools.{or-either}
 use Rattle.laws.proofs.EachLaws.{any-some}
@@ -48,15 +49,23 @@ module _ (g : Rules) (sound : Sound g) (u : U.Unit) (h : List Step) (K : Kept g 
   unfolding statusBy
   others n k = bit-of (reportsOf c (u .stretch)) n ∙ ap (λ (r : ChartReport). r .over) (shown-past c (u .stretch) n k)
 
-  shows : Shows (chartsIn c) (limit c) (view (u .stretch)) (u .misses .opened) (shown h (statusBy c u))
+  shows : Shows (chartsIn c) (limit c) (view (u .stretch)) (u .misses .opened) (u .latest) (shown h (statusBy c u))
   unfolding statusBy
   shows = record {
     opened = (
-      λ o. ⊎-elim (λ e. inl e) (λ e. let p = any-some (chartsIn c) overAt .0 e in inr (p .0, p .1, over-is (p .0) (p .1) ∙ p .2)) (or-either (u .misses .opened) (anyOver c (u .stretch .charts)) (sym (K .opened) ∙ o)),
-      ⊎-elim (λ e. K .opened ∙ ap (λ (b : Bool). b || anyOver c (u .stretch .charts)) e)
-          (λ p. K .opened ∙ ap (λ (b : Bool). u .misses .opened || b) (any-some (chartsIn c) overAt .1 (p .0, p .1, sym (over-is (p .0) (p .1)) ∙ p .2)) ∙ or-true (u .misses .opened)),
+      λ o. ⊎-elim
+          (λ e. ⊎-elim (λ a. inl a) (λ a. inr (inl (K .named ∙ a))) (or-either (u .misses .opened) (isBroken (u .latest)) e))
+          (λ e. let p = any-some (chartsIn c) overAt .0 e in inr (inr (p .0, p .1, over-is (p .0) (p .1) ∙ p .2)))
+          (or-either (u .misses .opened || isBroken (u .latest)) (anyOver c (u .stretch .charts)) (sym (K .opened) ∙ o)),
+      ⊎-elim (λ e. K .opened ∙ ap (λ (b : Bool). b || isBroken (u .latest) || anyOver c (u .stretch .charts)) e)
+          (⊎-elim
+          (λ e. K .opened ∙ ap (λ (b : Bool). u .misses .opened || b || anyOver c (u .stretch .charts)) (sym (K .named) ∙ e)
+          ∙ ap (λ (b : Bool). b || anyOver c (u .stretch .charts)) (or-true (u .misses .opened)))
+          (λ p. K .opened ∙ ap (λ (b : Bool). u .misses .opened || isBroken (u .latest) || b) (any-some (chartsIn c) overAt .1 (p .0, p .1, sym (over-is (p .0) (p .1)) ∙ p .2))
+          ∙ or-true (u .misses .opened || isBroken (u .latest)))),
     );
     misses = refl;
+    misidentified = K .named;
     over-is = over-is;
     others = others;
     first = λ n k _. ap (λ (r : ChartReport). r .first) (shown-at c (sound .few) (u .stretch) n k);
@@ -68,6 +77,7 @@ module _ (g : Rules) (sound : Sound g) (u : U.Unit) (h : List Step) (K : Kept g 
   claim-in : ClaimIn g h (statusBy c u)
   claim-in =
       claim (chartsIn c) (limit c) (low c) (entriesOf g h) (view (u .stretch)) (K .charted) (u .misses .last) (u .misses .opened) (K .missed-kept)
+      (u .latest) (K .counted)
       (shown h (statusBy c u)) shows
 
 -- ---- over the whole list
@@ -77,15 +87,15 @@ module _ (g : Rules) (sound : Sound g) where
   kept-after u h [] K = K
   kept-after u h (l ∷ ls) K = kept-after (takenIn g u l .unit) (next h l (takenIn g u l .event)) ls (step-kept g sound u h l K)
 
-  -- from a unit that has no sample and no miss, whatever its stage
-  kept-list : (u : U.Unit) → u .stretch ≡ noSamples → u .misses ≡ noMisses → (ls : List (List ℕ)) → Kept g (afterIn g u ls) (since (historyIn g u ls))
-  kept-list u s m ls = kept-after u [] ls (fresh g u s m)
+  -- from a unit that has no sample, no miss and no counts, whatever its stage
+  kept-list : (u : U.Unit) → u .stretch ≡ noSamples → u .misses ≡ noMisses → u .latest ≡ noCounts → (ls : List (List ℕ)) → Kept g (afterIn g u ls) (since (historyIn g u ls))
+  kept-list u s m n ls = kept-after u [] ls (fresh g u s m n)
 
 -- what a new unit of a category keeps of a list
 kept-new : (k : Category) (ls : List (List ℕ)) → Kept (rulesOf k) (replay k ls) (since (history k ls))
 kept-new k ls =
     let u = newOf k in
-    rw (after-in u ls, history-in u ls) (kept-list (rulesOf k) (rules-sound k) u refl refl ls)
+    rw (after-in u ls, history-in u ls) (kept-list (rulesOf k) (rules-sound k) u refl refl refl ls)
 
 pub claim-holds : (k : Category) (ls : List (List ℕ)) (u : U.Unit) → replay k ls ≡ u → ClaimOf k ls (statusOf u)
 claim-holds k ls u e =

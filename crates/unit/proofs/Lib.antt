@@ -20,3 +20,4 @@ pub mod MaskLaws
 pub mod Kept
 pub mod Claimed
 pub mod ResidueUnitLaws
+pub mod MisidentifiedLaws

@@ -7,7 +7,7 @@ use native.Mathlib.Omega.{arith}
 use borrow.Author.Tests.{eqb-false}
 use lib.Dec.{eqb, lit≤, lit<}
 use Rattle.difference.specs.declared.constants.Constants.{Constants}
-use Rattle.grounds.specs.Earlier.{again}
+use Rattle.grounds.specs.Earlier.{again, isBroken}
 use Rattle.rows.specs.Rows.{firstRow}
 use Rattle.difference.specs.declared.category.Category.{Category}
 use Rattle.seen.specs.Rules.{Rules, rulesOf}
@@ -15,7 +15,7 @@ use Rattle.unit.specs.Reached.{after, isMade, Reached}
 use Rattle.unit.specs.Set.{enteredOf, passesSet}
 use Rattle.study.specs.Study.{SET}
 use Rattle.unit.specs.Stretch.{anyOver, sampledOf}
-use Rattle.unit.specs.Take.{emptyUnit, newOf, missedBy, sampleBy, judgedBy, studyBy, acceptedBy, takenByRow, rowsIn, takenIn, takenOf}
+use Rattle.unit.specs.Take.{emptyUnit, newOf, missedBy, latestAfter, sampleBy, judgedBy, studyBy, acceptedBy, takenByRow, rowsIn, takenIn, takenOf}
 use Rattle.unit.specs.bounds.Numbers.{Bounded, GoodSeen, LAST-MONTH, SetBounded, StretchBounded}
 use Rattle.unit.specs.declared.Unit as U
 use Rattle.seen.specs.declared.Seen.{Seen}
@@ -37,9 +37,10 @@ missed-kept : (b : Bool) (c : Constants) (u : U.Unit) (m : ℕ) → m ≤ LAST-M
 missed-kept true c u m h k = record { lines = k .lines; sums = k .sums; stretch = k .stretch; miss = h }
 missed-kept false c u m h k = record { lines = k .lines; sums = k .sums; stretch = k .stretch; miss = h }
 
-sample-kept : (b : Bool) (c : Constants) (u : U.Unit) (m : ℕ) (s : Stretch) → StretchBounded c s → Bounded c u → Bounded c (sampleBy b u m s .unit)
-sample-kept true c u m s h k = record { lines = k .lines; sums = k .sums; stretch = h; miss = k .miss }
-sample-kept false c u m s h k = record { lines = k .lines; sums = k .sums; stretch = h; miss = k .miss }
+sample-kept : (a b : Bool) (c : Constants) (u : U.Unit) (m : ℕ) (s : Stretch) (latest : List ℕ) → StretchBounded c s → Bounded c u → Bounded c (sampleBy a b u m s latest .unit)
+sample-kept true b c u m s latest h k = record { lines = k .lines; sums = k .sums; stretch = h; miss = k .miss }
+sample-kept false true c u m s latest h k = record { lines = k .lines; sums = k .sums; stretch = h; miss = k .miss }
+sample-kept false false c u m s latest h k = record { lines = k .lines; sums = k .sums; stretch = h; miss = k .miss }
 
 judged-kept : (b : Bool) (c : Constants) (u : U.Unit) (m : ℕ) → Bounded c u → Bounded c (judgedBy b u m .unit)
 judged-kept true c u m k = record { lines = lit< tt; sums = empty-bounded; stretch = no-samples-bounded c; miss = lit≤ tt }
@@ -60,7 +61,8 @@ module _ (g : Rules) (sound : Sound g) (u : U.Unit) (k : Bounded (g .constants) 
   accepted-kept false true x p q o h = missed-kept (again (u .misses .last) (x .month)) (g .constants) u (x .month) (omega (arith, h .december, h .late)) k
   accepted-kept false false x p q o h =
       let s = sampledOf (g .constants) (u .stretch) (x .year) (x .differences) in
-      sample-kept (anyOver (g .constants) (s .charts)) (g .constants) u (x .month) s
+      let latest = latestAfter u x in
+      sample-kept (isBroken latest) (anyOver (g .constants) (s .charts)) (g .constants) u (x .month) s latest
       (sampled-bounded (g .constants) (sound .few) (sound .fits) (u .stretch) (k .stretch) (x .year) (x .differences) (room u x o p q)) k
 
   pub bounded-take : (line : List ℕ) → Bounded (g .constants) (takenIn g u line .unit)

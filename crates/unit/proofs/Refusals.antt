@@ -5,7 +5,7 @@ use mathlib.Core.Bool.{Bool, true, false, cond, true≢false}
 use mathlib.Core.List.{List}
 use borrow.Author.Tests.{eq-eqb}
 use lib.Dec.{eqb}
-use Rattle.grounds.specs.Earlier.{again}
+use Rattle.grounds.specs.Earlier.{again, isBroken}
 use Rattle.rows.specs.Rows.{firstRow, distinct, no-row, a-row, givenBy, Answers}
 use Rattle.rows.proofs.RowsLaws.{first-given}
 use Rattle.seen.specs.Rules.{Rules, rulesOf}
@@ -13,7 +13,7 @@ use Rattle.reply.specs.Event.{eventByte, numberByte, eventRow}
 use Rattle.unit.specs.Set.{enteredOf, passesSet}
 use Rattle.unit.specs.Stretch.{sampledOf, anyOver}
 use Rattle.study.specs.Study.{SET}
-use Rattle.unit.specs.Take.{missedBy, sampleBy, judgedBy, studyBy, acceptedBy, takenByRow, rowsIn, takenIn, takenOf}
+use Rattle.unit.specs.Take.{missedBy, latestAfter, sampleBy, judgedBy, studyBy, acceptedBy, takenByRow, rowsIn, takenIn, takenOf}
 use Rattle.unit.specs.declared.Unit as U
 use Rattle.unit.specs.declared.Taken.{Taken}
 use Rattle.difference.specs.declared.constants.Constants.{Constants}
@@ -32,9 +32,10 @@ missed-leaves : (b : Bool) (u : U.Unit) (m : ℕ) → Leaves u m (missedBy b u m
 missed-leaves true u m = record { event = refl; month-is = refl; category-is = refl }
 missed-leaves false u m = record { event = refl; month-is = refl; category-is = refl }
 
-sample-leaves : (b : Bool) (u : U.Unit) (m : ℕ) (s : Stretch) → Leaves u m (sampleBy b u m s)
-sample-leaves true u m s = record { event = refl; month-is = refl; category-is = refl }
-sample-leaves false u m s = record { event = refl; month-is = refl; category-is = refl }
+sample-leaves : (a b : Bool) (u : U.Unit) (m : ℕ) (s : Stretch) (latest : List ℕ) → Leaves u m (sampleBy a b u m s latest)
+sample-leaves true b u m s latest = record { event = refl; month-is = refl; category-is = refl }
+sample-leaves false true u m s latest = record { event = refl; month-is = refl; category-is = refl }
+sample-leaves false false u m s latest = record { event = refl; month-is = refl; category-is = refl }
 
 judged-leaves : (b : Bool) (u : U.Unit) (m : ℕ) → Leaves u m (judgedBy b u m)
 judged-leaves true u m = record { event = refl; month-is = refl; category-is = refl }
@@ -47,7 +48,10 @@ study-leaves false c u m s = record { event = refl; month-is = refl; category-is
 accepted-leaves : (a b : Bool) (c : Constants) (u : U.Unit) (x : Seen) → Leaves u (x .month) (acceptedBy a b c u x)
 accepted-leaves true b c u x = let s = enteredOf c (u .set) (x .differences) in study-leaves (eqb (s .lines) SET) c u (x .month) s
 accepted-leaves false true c u x = missed-leaves (again (u .misses .last) (x .month)) u (x .month)
-accepted-leaves false false c u x = let s = sampledOf c (u .stretch) (x .year) (x .differences) in sample-leaves (anyOver c (s .charts)) u (x .month) s
+accepted-leaves false false c u x =
+    let s = sampledOf c (u .stretch) (x .year) (x .differences) in
+    let latest = latestAfter u x in
+    sample-leaves (isBroken latest) (anyOver c (s .charts)) u (x .month) s latest
 
 -- where no row fits
 pub leaves : (c : Constants) (u : U.Unit) (x : Seen) → Leaves u (x .month) (takenByRow 0 c u x)

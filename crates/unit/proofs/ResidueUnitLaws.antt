@@ -11,7 +11,7 @@ use lib.Seq.{append-snoc}
 use Rattle.difference.specs.Contribution.{residue}
 use Rattle.difference.specs.declared.category.Category.{Category}
 use Rattle.difference.specs.declared.category.Category.the-variants.{Residue}
-use Rattle.grounds.specs.Earlier.{again}
+use Rattle.grounds.specs.Earlier.{again, isBroken}
 use Rattle.laws.proofs.Bools.{or-neither}
 use Rattle.reply.specs.Event.{eventByte, numberByte}
 use Rattle.reply.specs.declared.event.Event.{Event}
@@ -25,7 +25,7 @@ use Rattle.unit.specs.ResidueUnit.{OfResidues, FirstTaken, RowsNever, of
 use Rattle.unit.specs.Reached.{after, replay}
 use Rattle.unit.specs.Status.{statusBy}
 use Rattle.unit.specs.Stretch.{anyOver, sampledOf}
-use Rattle.unit.specs.Take.{ACCREDITED, PROBATION, ROW-CLOSED, ROW-STAGE, ROW-GAP, closedIn, backdatedRow, fullRow, unitRows, missedBy, sampleBy, acceptedBy, takenByRow, rowsIn, takenIn, takenOf, newOf}
+use Rattle.unit.specs.Take.{ACCREDITED, PROBATION, ROW-CLOSED, ROW-STAGE, ROW-GAP, closedIn, backdatedRow, fullRow, unitRows, missedBy, latestAfter, sampleBy, acceptedBy, takenByRow, rowsIn, takenIn, takenOf, newOf}
 use Rattle.unit.specs.declared.Taken.{Taken}
 use Rattle.unit.specs.declared.Unit as U
 use Rattle.unit.specs.declared.stretch.Stretch.{Stretch}
@@ -51,9 +51,10 @@ missed-event : (b : Bool) (u : U.Unit) (m : ℕ) → ofSet (missedBy b u m .even
 missed-event true u m = refl
 missed-event false u m = refl
 
-sample-event : (b : Bool) (u : U.Unit) (m : ℕ) (s : Stretch) → ofSet (sampleBy b u m s .event) ≡ false
-sample-event true u m s = refl
-sample-event false u m s = refl
+sample-event : (a b : Bool) (u : U.Unit) (m : ℕ) (s : Stretch) (latest : List ℕ) → ofSet (sampleBy a b u m s latest .event) ≡ false
+sample-event true b u m s latest = refl
+sample-event false true u m s latest = refl
+sample-event false false u m s latest = refl
 
 module _ (compound : ℕ) (u : U.Unit) (of : OfResidues compound u) (line : List ℕ) where
   abbrev g : Rules
@@ -100,7 +101,10 @@ module _ (compound : ℕ) (u : U.Unit) (of : OfResidues compound u) (line : List
 
   accepted-event : (b : Bool) → ofSet (acceptedBy false b residue u x .event) ≡ false
   accepted-event true = missed-event (again (u .misses .last) (x .month)) u (x .month)
-  accepted-event false = let s = sampledOf residue (u .stretch) (x .year) (x .differences) in sample-event (anyOver residue (s .charts)) u (x .month) s
+  accepted-event false =
+      let s = sampledOf residue (u .stretch) (x .year) (x .differences) in
+      let latest = latestAfter u x in
+      sample-event (isBroken latest) (anyOver residue (s .charts)) u (x .month) s latest
 
   event-by : (n : ℕ) → ofSet (takenByRow n residue u x .event) ≡ false
   event-by zero = accepted-event (x .missed)
@@ -120,13 +124,17 @@ module _ (compound : ℕ) (u : U.Unit) (of : OfResidues compound u) (line : List
   missed-leads true m = refl
   missed-leads false m = refl
 
-  sample-leads : (b : Bool) (m : ℕ) (s : Stretch) → Leads (sampleBy b u m s)
-  sample-leads true m s = refl
-  sample-leads false m s = refl
+  sample-leads : (a b : Bool) (m : ℕ) (s : Stretch) (latest : List ℕ) → Leads (sampleBy a b u m s latest)
+  sample-leads true b m s latest = refl
+  sample-leads false true m s latest = refl
+  sample-leads false false m s latest = refl
 
   accepted-leads : (b : Bool) → Leads (acceptedBy false b residue u x)
   accepted-leads true = missed-leads (again (u .misses .last) (x .month)) (x .month)
-  accepted-leads false = let s = sampledOf residue (u .stretch) (x .year) (x .differences) in sample-leads (anyOver residue (s .charts)) (x .month) s
+  accepted-leads false =
+      let s = sampledOf residue (u .stretch) (x .year) (x .differences) in
+      let latest = latestAfter u x in
+      sample-leads (isBroken latest) (anyOver residue (s .charts)) (x .month) s latest
 
   leads-by : (n : ℕ) → Leads (takenByRow n residue u x)
   leads-by zero = accepted-leads (x .missed)

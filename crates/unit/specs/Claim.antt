@@ -1,5 +1,5 @@
--- Demand 3 of document 01, and of document 02 for residues, as one claim about the whole list of lines given to a new unit of a category: the lines
--- given, the events returned and the status after them, and nothing of the unit's fields.
+-- Demand 3 of document 01, and of document 02 for residues and their misidentifications, as one claim about the whole list of lines given to a new unit of
+-- a category: the lines given, the events returned and the status after them, and nothing of the unit's fields.
 use Prim.Native.Nat.{ℕ}
 use mathlib.Core.Bool.{Bool, true, false, cond, not, _||_}
 use mathlib.Core.List.{List, [], _∷_, _++_}
@@ -50,18 +50,26 @@ since h = sinceFrom [] h
 abbrev pub isAccepted : Event → Bool
 isAccepted e = not (eqb (eventByte e) 0)
 
--- probation is opened by event 06 or 07
+-- misidentifications are named by event 08
+abbrev pub isMisidentification : Event → Bool
+isMisidentification e = eqb (eventByte e) 8
+
+-- probation is opened by event 06, 07 or 08
 abbrev pub opens : Event → Bool
-opens e = eqb (eventByte e) 6 || eqb (eventByte e) 7
+opens e = eqb (eventByte e) 6 || eqb (eventByte e) 7 || isMisidentification e
 
 abbrev pub openedIn : List Step → Bool
 openedIn [] = false
 openedIn (x ∷ h) = opens (x .event) || openedIn h
 
+abbrev pub misidentifiedIn : List Step → Bool
+misidentifiedIn [] = false
+misidentifiedIn (x ∷ h) = isMisidentification (x .event) || misidentifiedIn h
+
 -- a maintenance line is missed or a sample
 abbrev pub entryBy : Bool → Constants → Seen → Entry
 entryBy true c x = aMiss (x .month)
-entryBy false c x = sample (x .year) (contributionTo c (x .differences))
+entryBy false c x = sample (x .year) (x .count) (contributionTo c (x .differences))
 
 -- a study line leaves no entry
 abbrev pub entryOf : Constants → Seen → List Entry
@@ -78,12 +86,14 @@ entriesOf g (x ∷ h) = entryIn g x ++ entriesOf g h
 abbrev pub shownAt : Report → ℕ → ChartReport
 shownAt report c = getD (report .charts) c noReport
 
--- what is named and shown: a chart by its bit, a run by its first and last sample, its sum by the value, misses by their byte
+-- what is named and shown: a chart by its bit, a run by its first and last sample, its sum by the value, misses by their byte, misidentifications by the
+-- event
 abbrev pub shown : List Step → Report → Grounds
 shown h report =
     record {
       opened = openedIn h;
       misses = report .misses;
+      misidentified = misidentifiedIn h;
       over = λ c. bitAt c (report .mask);
       first = λ c. shownAt report c .first;
       last = λ c. shownAt report c .last;

@@ -1,4 +1,4 @@
--- Document 01, section by section, with request One of document 02. `bounds` is no part of its rules.
+-- Document 01, section by section, with requests One and Three of document 02. `bounds` is no part of its rules.
 pub mod Charts
 pub mod Stretch
 pub mod Set
@@ -9,5 +9,6 @@ pub mod Claim
 pub mod Accepted
 pub mod Since
 pub mod ResidueUnit
+pub mod Misidentified
 pub mod Months
 pub mod bounds

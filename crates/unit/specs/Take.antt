@@ -1,10 +1,10 @@
--- Document 01, "Stages" and rows 8 to 12 of "Refused", and document 02, request One: a new unit, and what a line does to a unit. The definitions of
+-- Document 01, "Stages" and rows 8 to 12 of "Refused", and document 02, requests One and Three: a new unit, and what a line does to a unit. The definitions of
 -- `new_unit`, `new_residue_unit` and `take`.
 use Prim.Native.Nat.{ℕ, zero, suc}
 use mathlib.Core.Bool.{Bool, true, false, cond, not, _&&_, _||_}
 use mathlib.Core.List.{List, [], _∷_, _++_}
 use lib.Dec.{leb, ltb, eqb}
-use Rattle.grounds.specs.Earlier.{again}
+use Rattle.grounds.specs.Earlier.{again, noCounts, latestOf, isBroken}
 use Rattle.rows.specs.Rows.{Row, firstRow}
 use Rattle.difference.specs.declared.category.Category.{Category}
 use Rattle.difference.specs.declared.category.Category.the-variants.{Food, Residue}
@@ -20,7 +20,7 @@ use Rattle.unit.specs.declared.Taken.{Taken}
 use Rattle.unit.specs.declared.Misses.{Misses}
 use Rattle.difference.specs.declared.constants.Constants.{Constants}
 use Rattle.reply.specs.declared.event.Event.{Event}
-use Rattle.reply.specs.declared.event.Event.the-variants.{Refused, Sample, Missed, UnderWay, Passed, Failed, ByCharts, ByMisses}
+use Rattle.reply.specs.declared.event.Event.the-variants.{Refused, Sample, Missed, UnderWay, Passed, Failed, ByCharts, ByMisses, ByMisidentifications}
 use Rattle.seen.specs.declared.Seen.{Seen}
 use Rattle.unit.specs.declared.set.Set.{Set}
 use Rattle.unit.specs.declared.stretch.Stretch.{Stretch}
@@ -47,7 +47,7 @@ noMisses = record { last = 0; opened = false }
 
 -- a unit that has taken no line; a last month of 0, before every line's, stands for no accepted line
 abbrev pub emptyUnit : Category → ℕ → U.Unit
-emptyUnit k stage = record { category = k; stage = stage; month = 0; set = emptySet; stretch = noSamples; misses = noMisses }
+emptyUnit k stage = record { category = k; stage = stage; month = 0; set = emptySet; stretch = noSamples; misses = noMisses; latest = noCounts }
 
 -- a new unit is at stage 0; one of residues starts accredited, which is its admission
 abbrev pub firstStage : Category → ℕ
@@ -123,39 +123,51 @@ unitRows u x =
 abbrev pub refusedOf : U.Unit → ℕ → Taken
 refusedOf u n = record { event = Refused n; unit = u }
 
--- what an accepted line leaves: the event, and the unit's stage, last accepted month, set, stretch and misses after it; its category stays
-abbrev pub takenAs : Event → U.Unit → ℕ → ℕ → Set → Stretch → Misses → Taken
-takenAs event u stage month set stretch misses =
-    record { event = event; unit = record { category = u .category; stage = stage; month = month; set = set; stretch = stretch; misses = misses } }
+-- what an accepted line leaves: the event, and the unit's stage, last accepted month, set, stretch, misses and counts after it; its category stays
+abbrev pub takenAs : Event → U.Unit → ℕ → ℕ → Set → Stretch → Misses → List ℕ → Taken
+takenAs event u stage month set stretch misses latest =
+    record {
+      event = event;
+      unit = record { category = u .category; stage = stage; month = month; set = set; stretch = stretch; misses = misses; latest = latest };
+    }
 
 -- A missed line: by whether it is at most 11 months after an earlier miss since admission.
 abbrev pub missedBy : Bool → U.Unit → ℕ → Taken
-missedBy true u month = takenAs ByMisses u PROBATION month (u .set) (u .stretch) (record { last = month; opened = true })
-missedBy false u month = takenAs Missed u (u .stage) month (u .set) (u .stretch) (record { last = month; opened = u .misses .opened })
+missedBy true u month = takenAs ByMisses u PROBATION month (u .set) (u .stretch) (record { last = month; opened = true }) (u .latest)
+missedBy false u month = takenAs Missed u (u .stage) month (u .set) (u .stretch) (record { last = month; opened = u .misses .opened }) (u .latest)
 
 abbrev pub missedOf : U.Unit → Seen → Taken
 missedOf u x = missedBy (again (u .misses .last) (x .month)) u (x .month)
 
--- A sample: by whether it leaves any chart over.
-abbrev pub sampleBy : Bool → U.Unit → ℕ → Stretch → Taken
-sampleBy true u month s = takenAs ByCharts u PROBATION month (u .set) s (u .misses)
-sampleBy false u month s = takenAs Sample u (u .stage) month (u .set) s (u .misses)
+-- A sample: by whether it breaks a window of misidentifications, and whether it leaves any chart over. Where both hold the event is 08.
+abbrev pub sampleBy : Bool → Bool → U.Unit → ℕ → Stretch → List ℕ → Taken
+sampleBy true over u month s latest = takenAs ByMisidentifications u PROBATION month (u .set) s (u .misses) latest
+sampleBy false true u month s latest = takenAs ByCharts u PROBATION month (u .set) s (u .misses) latest
+sampleBy false false u month s latest = takenAs Sample u (u .stage) month (u .set) s (u .misses) latest
+
+-- the latest counts after it
+abbrev pub latestAfter : U.Unit → Seen → List ℕ
+latestAfter u x = latestOf (x .count) (u .latest)
 
 abbrev pub sampleOf : Constants → U.Unit → Seen → Taken
-sampleOf c u x = let s = sampledOf c (u .stretch) (x .year) (x .differences) in sampleBy (anyOver c (s .charts)) u (x .month) s
+sampleOf c u x =
+    let s = sampledOf c (u .stretch) (x .year) (x .differences) in
+    let latest = latestAfter u x in
+    sampleBy (isBroken latest) (anyOver c (s .charts)) u (x .month) s latest
 
--- A set that was judged, by whether it passed. Passed is admission, which clears charts, grounds and misses.
+-- A set that was judged, by whether it passed. Passed is admission, which clears charts, grounds and misses, and the latest counts, which are 0 in food
+-- chemistry.
 abbrev pub failedStage : ℕ → ℕ
 failedStage stage = cond (eqb stage APPLICANT) SECOND CLOSED
 
 abbrev pub judgedBy : Bool → U.Unit → ℕ → Taken
-judgedBy true u month = takenAs Passed u ACCREDITED month emptySet noSamples noMisses
-judgedBy false u month = takenAs Failed u (failedStage (u .stage)) month emptySet (u .stretch) (u .misses)
+judgedBy true u month = takenAs Passed u ACCREDITED month emptySet noSamples noMisses noCounts
+judgedBy false u month = takenAs Failed u (failedStage (u .stage)) month emptySet (u .stretch) (u .misses) (u .latest)
 
 -- A study line: by whether it is the set's last.
 abbrev pub studyBy : Bool → Constants → U.Unit → ℕ → Set → Taken
 studyBy true c u month s = judgedBy (passesSet c s) u month
-studyBy false c u month s = takenAs (UnderWay (s .lines)) u (u .stage) month s (u .stretch) (u .misses)
+studyBy false c u month s = takenAs (UnderWay (s .lines)) u (u .stage) month s (u .stretch) (u .misses) (u .latest)
 
 abbrev pub studyOf : Constants → U.Unit → Seen → Taken
 studyOf c u x = let s = enteredOf c (u .set) (x .differences) in studyBy (eqb (s .lines) SET) c u (x .month) s

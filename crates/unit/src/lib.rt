@@ -5,6 +5,8 @@ mod shown;
 mod stage;
 mod stretch;
 
+use counts::EIGHT;
+use counts::no_counts;
 use difference::category::Category;
 use difference::category::constants_of;
 use field::residue::no_compound;
@@ -43,7 +45,8 @@ pub struct Misses {
 }
 
 // A unit: its category, its stage, the last accepted line's month, 0 where there is none, the study
-// set under way, the stretch and the misses. Only `new_unit`, `new_residue_unit` and `take` make one.
+// set under way, the stretch, the misses and the latest misidentification counts. Only `new_unit`,
+// `new_residue_unit` and `take` make one.
 pub struct Unit {
     category: Category,
     stage: u8,
@@ -51,6 +54,7 @@ pub struct Unit {
     set: Set,
     stretch: Stretch,
     misses: Misses,
+    latest: [u8; EIGHT],
 }
 
 // What making a residue unit gives: 0 and the unit, or the number of the refusal and no unit of ours.
@@ -76,6 +80,7 @@ fn empty_unit(category: Category, stage: u8) -> Unit
         set: empty_set(),
         stretch: no_samples(),
         misses: no_misses(),
+        latest: no_counts(),
     }
 }
 

@@ -10,6 +10,10 @@ use crate::stretch::Stretch;
 use crate::stretch::any_over;
 use crate::stretch::no_samples;
 use crate::stretch::sampled;
+use counts::EIGHT;
+use counts::latest_of;
+use counts::no_counts;
+use counts::too_many;
 use difference::category::Category;
 use difference::constants::Constants;
 use reply::event::Event;
@@ -20,7 +24,7 @@ ghost use mathlib.Core.Path.{_≡_};
 ghost use mathlib.Core.Bool.{true};
 ghost use Prim.Native.Nat.{_≤_};
 ghost use lib.Dec.{eqb};
-ghost use Rattle.grounds.specs.Earlier.{again};
+ghost use Rattle.grounds.specs.Earlier.{again, isBroken};
 ghost use Rattle.rows.specs.Rows.{firstRow};
 ghost use Rattle.difference.specs.Contribution.{ANALYTES};
 ghost use Rattle.study.specs.Study.{SET};
@@ -42,7 +46,7 @@ pub const CLOSED: u8 = 4;
 // How many samples a stretch holds.
 const FULL: u16 = 999;
 // Two misses at most so many months apart open probation.
-const WINDOW: u32 = 11;
+const APART: u32 = 11;
 
 // The numbers of rows 8 to 12, document 01, "Refused".
 const ROW_CLOSED: u8 = 8;
@@ -112,8 +116,9 @@ fn taken(
     set: Set,
     stretch: Stretch,
     misses: Misses,
+    latest: [u8; EIGHT],
 ) -> Taken
-    ensures { λ t. ⌜ t ≡ takenAs event u stage month set stretch misses ⌝ }
+    ensures { λ t. ⌜ t ≡ takenAs event u stage month set stretch misses latest ⌝ }
 {
     let category = u.category;
     Taken {
@@ -125,6 +130,7 @@ fn taken(
             set,
             stretch,
             misses,
+            latest,
         },
     }
 }
@@ -134,29 +140,72 @@ fn missed_line(u: Unit, month: u32) -> Taken
     ensures { λ t. ⌜ t ≡ missedBy (again (u .misses .last) month) u month ⌝ }
 {
     let before = u.misses;
-    if month <= before.last + WINDOW {
+    let kept = u.latest;
+    if month <= before.last + APART {
         let now = Misses {
             last: month,
             opened: true,
         };
-        return taken(Event::ByMisses, u, PROBATION, month, u.set, u.stretch, now);
+        return taken(
+            Event::ByMisses,
+            u,
+            PROBATION,
+            month,
+            u.set,
+            u.stretch,
+            now,
+            kept,
+        );
     }
     let now = Misses {
         last: month,
         opened: before.opened,
     };
-    taken(Event::Missed, u, u.stage, month, u.set, u.stretch, now)
+    taken(
+        Event::Missed,
+        u,
+        u.stage,
+        month,
+        u.set,
+        u.stretch,
+        now,
+        kept,
+    )
 }
 
-fn sample_line(c: Constants, u: Unit, month: u32, s: Stretch) -> Taken
+// Misidentifications come before charts.
+fn sample_line(c: Constants, u: Unit, month: u32, s: Stretch, latest: [u8; EIGHT]) -> Taken
     requires { ⌜ c .analytes ≤ ANALYTES ⌝ }
-    ensures { λ t. ⌜ t ≡ sampleBy (anyOver c (s .charts)) u month s ⌝ }
+    ensures { λ t. ⌜ t ≡ sampleBy (isBroken latest) (anyOver c (s .charts)) u month s latest ⌝ }
 {
+    let broken = too_many(latest);
     let charts = s.charts;
-    if any_over(c, charts) {
-        return taken(Event::ByCharts, u, PROBATION, month, u.set, s, u.misses);
+    let over = any_over(c, charts);
+    if broken {
+        return taken(
+            Event::ByMisidentifications,
+            u,
+            PROBATION,
+            month,
+            u.set,
+            s,
+            u.misses,
+            latest,
+        );
     }
-    taken(Event::Sample, u, u.stage, month, u.set, s, u.misses)
+    if over {
+        return taken(
+            Event::ByCharts,
+            u,
+            PROBATION,
+            month,
+            u.set,
+            s,
+            u.misses,
+            latest,
+        );
+    }
+    taken(Event::Sample, u, u.stage, month, u.set, s, u.misses, latest)
 }
 
 // The stage after a failed set.
@@ -166,7 +215,8 @@ fn after_failure(stage: u8) -> u8
     if stage == APPLICANT { SECOND } else { CLOSED }
 }
 
-// A set that was judged. Passed is admission, which clears charts, grounds and misses.
+// A set that was judged. Passed is admission, which clears charts, grounds and misses, and the latest
+// counts.
 fn judged(u: Unit, month: u32, passed: bool) -> Taken
     ensures { λ t. ⌜ t ≡ judgedBy passed u month ⌝ }
 {
@@ -179,9 +229,11 @@ fn judged(u: Unit, month: u32, passed: bool) -> Taken
             empty_set(),
             no_samples(),
             no_misses(),
+            no_counts(),
         );
     }
     let stage = after_failure(u.stage);
+    let latest = u.latest;
     taken(
         Event::Failed,
         u,
@@ -190,6 +242,7 @@ fn judged(u: Unit, month: u32, passed: bool) -> Taken
         empty_set(),
         u.stretch,
         u.misses,
+        latest,
     )
 }
 
@@ -200,6 +253,7 @@ fn study_line(c: Constants, u: Unit, month: u32, set: Set) -> Taken
     if set.lines == LINES {
         return judged(u, month, passes_set(c, set));
     }
+    let latest = u.latest;
     taken(
         Event::UnderWay(set.lines),
         u,
@@ -208,6 +262,7 @@ fn study_line(c: Constants, u: Unit, month: u32, set: Set) -> Taken
         set,
         u.stretch,
         u.misses,
+        latest,
     )
 }
 
@@ -227,5 +282,12 @@ pub fn take_seen(c: Constants, u: Unit, x: Seen) -> Taken
     if x.missed {
         return missed_line(u, x.month);
     }
-    sample_line(c, u, x.month, sampled(c, u.stretch, x.year, d))
+    let before = u.latest;
+    sample_line(
+        c,
+        u,
+        x.month,
+        sampled(c, u.stretch, x.year, d),
+        latest_of(x.count, before),
+    )
 }

@@ -12,8 +12,11 @@ no-samples-requires c κs = search needs
 no-misses-requires : tie.Need-no-misses-requires
 no-misses-requires c κs = search needs
 
+no-counts-requires : tie.Need-no-counts-requires
+no-counts-requires c κs = search needs
+
 returns : tie.Need-returns
-returns c = rw (c .before .before .empty-set .ensures, c .before .no-samples .ensures, c .no-misses .ensures)
+returns c = rw (c .before .before .before .empty-set .ensures, c .before .before .no-samples .ensures, c .before .no-misses .ensures, c .no-counts .ensures)
 
 pub empty-unit-spec : {M : Type 1} → statement M
-empty-unit-spec = tie.close (tie.spec empty-set-requires no-samples-requires no-misses-requires returns)
+empty-unit-spec = tie.close (tie.spec empty-set-requires no-samples-requires no-misses-requires no-counts-requires returns)

@@ -27,6 +27,9 @@ enum-told-5 c = search needs
 enum-told-6 : tie.Need-enum-told-6
 enum-told-6 c = search needs
 
+enum-told-7 : tie.Need-enum-told-7
+enum-told-7 c = search needs
+
 returns : tie.Need-returns
 returns c = rw (c .before .event .given .1)
 
@@ -51,6 +54,9 @@ returns-7 c = rw (c .enum-told5 .given .1)
 returns-8 : tie.Need-returns-8
 returns-8 c = rw (c .enum-told6 .given .1)
 
+returns-9 : tie.Need-returns-9
+returns-9 c = rw (c .enum-told7 .given .1)
+
 pub bytes-of-spec : {M : Type 1} → statement M
 bytes-of-spec =
     tie.close
@@ -63,6 +69,7 @@ bytes-of-spec =
     enum-told-4
     enum-told-5
     enum-told-6
+    enum-told-7
     returns
     returns-2
     returns-3
@@ -70,4 +77,5 @@ bytes-of-spec =
     returns-5
     returns-6
     returns-7
-    returns-8)
+    returns-8
+    returns-9)

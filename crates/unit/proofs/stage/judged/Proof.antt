@@ -1,6 +1,7 @@
 -- `judged` meets its contract, by whether the set passed. Assumes nothing.
 use mathlib.Core.Path.{_≡_, refl, sym, ap, _∙_}
 use mathlib.Core.Bool.{Bool}
+use mathlib.Core.List.{List}
 use Prim.Native.Nat.{ℕ}
 use Rattle.unit.specs.Take.{takenAs, judgedBy}
 use Rattle.unit.specs.declared.Unit as U
@@ -13,9 +14,9 @@ use Rattle.unit.proofs.stage.judged.Statement.{statement}
 use Rattle.unit.proofs.stage.judged.Tie as tie
 
 -- what is left, part by part
-left : (e : Event) (u : U.Unit) (month : ℕ) {stage stage′ : ℕ} {set set′ : Set} {stretch stretch′ : Stretch} {misses misses′ : Misses} → stage ≡ stage′ → set ≡ set′
-    → stretch ≡ stretch′ → misses ≡ misses′ → takenAs e u stage month set stretch misses ≡ takenAs e u stage′ month set′ stretch′ misses′
-left e u month es et ss ms = rw (es, et, ss, ms)
+left : (e : Event) (u : U.Unit) (month : ℕ) {stage stage′ : ℕ} {set set′ : Set} {stretch stretch′ : Stretch} {misses misses′ : Misses} {latest latest′ : List ℕ} → stage ≡ stage′ → set ≡ set′
+    → stretch ≡ stretch′ → misses ≡ misses′ → latest ≡ latest′ → takenAs e u stage month set stretch misses latest ≡ takenAs e u stage′ month set′ stretch′ misses′ latest′
+left e u month es et ss ms cs = rw (es, et, ss, ms, cs)
 
 empty-set-requires : tie.Need-empty-set-requires
 empty-set-requires c κs = search needs
@@ -26,16 +27,20 @@ no-samples-requires c κs = search needs
 no-misses-requires : tie.Need-no-misses-requires
 no-misses-requires c κs = search needs
 
+no-counts-requires : tie.Need-no-counts-requires
+no-counts-requires c κs = search needs
+
 taken-requires : tie.Need-taken-requires
 taken-requires c κs = search needs
 
 returns : tie.Need-returns
 returns c =
-    let n = c .before in
+    let k = c .before in
+    let n = k .before in
     let s = n .before in
     let e = s .before in
     let a = e .before .before .args in
-    c .taken .ensures ∙ left _ (a .u) _ refl (e .empty-set .ensures) (s .no-samples .ensures) (n .no-misses .ensures)
+    c .taken .ensures ∙ left _ (a .u) _ refl (e .empty-set .ensures) (s .no-samples .ensures) (n .no-misses .ensures) (k .no-counts .ensures)
     ∙ ap (λ (b : Bool). judgedBy b (a .u) (a .month)) (sym (e .before .if1 .taken))
 
 after-failure-requires : tie.Need-after-failure-requires
@@ -50,10 +55,10 @@ taken-requires-2 c κs = search needs
 returns-2 : tie.Need-returns-2
 returns-2 c =
     let e = c .before in
-    let f = e .before in
+    let f = e .before .before in
     let a = f .before .before .args in
-    c .taken2 .ensures ∙ left _ (a .u) _ (f .after-failure .ensures) (e .empty-set2 .ensures) refl refl
+    c .taken2 .ensures ∙ left _ (a .u) _ (f .after-failure .ensures) (e .empty-set2 .ensures) refl refl refl
     ∙ ap (λ (b : Bool). judgedBy b (a .u) (a .month)) (sym (f .before .if1 .left))
 
 pub judged-spec : {M : Type 1} → statement M
-judged-spec = tie.close (tie.spec empty-set-requires no-samples-requires no-misses-requires taken-requires returns after-failure-requires empty-set-requires-2 taken-requires-2 returns-2)
+judged-spec = tie.close (tie.spec empty-set-requires no-samples-requires no-misses-requires no-counts-requires taken-requires returns after-failure-requires empty-set-requires-2 taken-requires-2 returns-2)

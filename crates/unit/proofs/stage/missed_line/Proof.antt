@@ -7,6 +7,9 @@ use borrow.Author.Needs.{needs}
 use Rattle.unit.proofs.stage.missed_line.Statement.{statement}
 use Rattle.unit.proofs.stage.missed_line.Tie as tie
 
+abbrev start : tie.After-struct-known → tie.Start
+start k = k .before .before .before
+
 add-if1 : tie.Need-add-if1
 add-if1 c = search needs
 
@@ -15,7 +18,7 @@ taken-requires c κs = search needs
 
 returns : tie.Need-returns
 returns c =
-    let a = c .before .before .before .before .args in
+    let a = start (c .before .before) .args in
     c .taken .ensures ∙ ap (λ (b : Bool). missedBy b (a .u) (a .month)) (sym (le-leb _ _ (c .before .if1 .taken)))
 
 taken-requires-2 : tie.Need-taken-requires-2
@@ -23,7 +26,7 @@ taken-requires-2 c κs = search needs
 
 returns-2 : tie.Need-returns-2
 returns-2 c =
-    let a = c .before .before .before .before .args in
+    let a = start (c .before .before) .args in
     c .taken2 .ensures ∙ ap (λ (b : Bool). missedBy b (a .u) (a .month)) (sym (lt-leb _ _ (c .before .if1 .left)))
 
 pub missed-line-spec : {M : Type 1} → statement M

@@ -25,8 +25,8 @@ taken-requires c κs = search needs
 
 returns-2 : tie.Need-returns-2
 returns-2 c =
-    let a = c .before .before .before .args in
-    c .taken .ensures ∙ ap (λ (b : Bool). studyBy b (a .c) (a .u) (a .month) (a .set)) (sym (ne-eqb _ _ (c .before .if1 .left)))
+    let a = c .before .before .before .before .args in
+    c .taken .ensures ∙ ap (λ (b : Bool). studyBy b (a .c) (a .u) (a .month) (a .set)) (sym (ne-eqb _ _ (c .before .before .if1 .left)))
 
 pub study-line-spec : {M : Type 1} → statement M
 study-line-spec = tie.close (tie.spec passes-set-requires judged-requires returns taken-requires returns-2)

@@ -1,6 +1,9 @@
 -- `take_seen` meets its contract: each return is a case of `takenSeen`. Assumes nothing.
-use mathlib.Core.Path.{_≡_, sym, ap, _∙_}
+use Prim.Native.Nat.{ℕ}
+use mathlib.Core.Path.{_≡_, sym, ap, ap₂, _∙_}
+use mathlib.Core.List.{List}
 use lib.Dec.{eqb}
+use Rattle.grounds.specs.Earlier.{isBroken}
 use Rattle.rows.specs.Rows.{firstRow}
 use Rattle.study.specs.Study.{SET}
 use Rattle.unit.specs.Stretch.{anyOver}
@@ -52,20 +55,25 @@ returns-3 c =
 
 sampled-requires : tie.Need-sampled-requires
 sampled-requires c κs =
-    let i = c .before in
+    let i = c .before .before in
     let s = i .before .before .before .before in
-    (s .pre .0, room (s .args .u) (s .args .x) (is-open (s .args .u) (s .args .x) (none (i .before .before))) (i .if2 .left) (c .if3 .left), s .pre .1 .stretch)
+    (s .pre .0, room (s .args .u) (s .args .x) (is-open (s .args .u) (s .args .x) (none (i .before .before))) (i .if2 .left) (c .before .if3 .left), s .pre .1 .stretch)
+
+latest-of-requires : tie.Need-latest-of-requires
+latest-of-requires c κs = search needs
 
 sample-line-requires : tie.Need-sample-line-requires
 sample-line-requires c κs = search needs
 
 returns-4 : tie.Need-returns-4
 returns-4 c =
-    let i = c .before .before .before in
+    let s = c .before .before in
+    let m = s .before .before in
+    let i = m .before in
     let a = i .before .before .before .before .args in
     c .sample-line .ensures
-    ∙ ap (λ (s : Stretch). sampleBy (anyOver (a .c) (s .charts)) (a .u) (a .x .month) s) (c .before .sampled .ensures)
-    ∙ accepted-sample (a .c) (a .u) (a .x) (none (i .before .before)) (i .if2 .left) (c .before .before .if3 .left)
+    ∙ ap₂ (λ (s : Stretch) (n : List ℕ). sampleBy (isBroken n) (anyOver (a .c) (s .charts)) (a .u) (a .x .month) s n) (s .sampled .ensures) (c .before .latest-of .ensures)
+    ∙ accepted-sample (a .c) (a .u) (a .x) (none (i .before .before)) (i .if2 .left) (m .if3 .left)
 
 pub take-seen-spec : {M : Type 1} → statement M
 take-seen-spec =
@@ -80,5 +88,6 @@ take-seen-spec =
     missed-line-requires
     returns-3
     sampled-requires
+    latest-of-requires
     sample-line-requires
     returns-4)
