@@ -9,6 +9,7 @@ use crate::head::Head;
 use crate::refused::Refusal;
 use crate::residue_line::{self, Outcome};
 use crate::unit::Stage;
+use crate::windows::{self, Window};
 
 /// The charts of the category that has most.
 pub const MOST_CHARTS: usize = KINDS * ANALYTES;
@@ -31,6 +32,8 @@ pub struct Seen {
     pub head: Head,
     /// One for each analyte, then zeros; none where a reading is lost or the days exceed 21.
     pub differences: Option<[i32; ANALYTES]>,
+    /// The line's count of them; food has none.
+    pub misidentifications: u8,
 }
 
 impl Category {
@@ -54,6 +57,14 @@ impl Category {
         match self {
             Category::Food => &FOOD,
             Category::Residue(_) => &RESIDUE,
+        }
+    }
+
+    /// The windows that its samples must not break.
+    pub fn windows(self) -> &'static [Window] {
+        match self {
+            Category::Food => &[],
+            Category::Residue(_) => &windows::RESIDUE,
         }
     }
 
@@ -90,7 +101,7 @@ fn food_seen(line: &food_line::Line, powers: &impl Powers) -> Seen {
         _ => Kind::Maintenance,
     };
     let differences = (!line.incomplete()).then(|| differences(line, powers));
-    Seen { kind, head: line.head, differences }
+    Seen { kind, head: line.head, differences, misidentifications: 0 }
 }
 
 fn residue_seen(line: residue_line::Line) -> Seen {
@@ -100,5 +111,6 @@ fn residue_seen(line: residue_line::Line) -> Seen {
         }
         _ => None,
     };
-    Seen { kind: Kind::Maintenance, head: line.head, differences }
+    let (kind, misidentifications) = (Kind::Maintenance, line.count);
+    Seen { kind, head: line.head, differences, misidentifications }
 }

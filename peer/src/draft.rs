@@ -77,6 +77,13 @@ impl Fields {
         }
     }
 
+    /// One of these counts of misidentifications, where a line has one.
+    pub fn misidentify(&mut self, counts: &[u8], random: &mut Random) {
+        if let Fields::Residue(fields) = self {
+            fields.count = random.pick(counts);
+        }
+    }
+
     pub fn text(&self) -> Vec<u8> {
         match self {
             Fields::Food(fields) => fields.text(),

@@ -31,6 +31,9 @@ pub struct Unit {
     firsts: Charts,
     last_miss: Option<u32>,
     misses: bool,
+    /// The misidentifications of the last eight samples, the last one first; 0 where there are
+    /// fewer.
+    misidentifications: [u8; 8],
 }
 
 impl Unit {
@@ -56,6 +59,7 @@ impl Unit {
             firsts: [0; MOST_CHARTS],
             last_miss: None,
             misses: false,
+            misidentifications: [0; 8],
         }
     }
 
@@ -79,7 +83,9 @@ impl Unit {
             (Kind::Study, None) => return Err(Refusal::Gap),
             (Kind::Study, Some(own)) => self.study(own),
             (Kind::Maintenance, None) => self.missed(month),
-            (Kind::Maintenance, Some(own)) => self.sample(seen.head.year, own)?,
+            (Kind::Maintenance, Some(own)) => {
+                self.sample(seen.head.year, own, seen.misidentifications)?
+            }
         };
         self.last_month = month;
         Ok(event)
@@ -115,9 +121,15 @@ impl Unit {
         self.misses = false;
     }
 
+    /// Whether a miss in this month, no earlier than the last line's, would open probation.
+    pub fn soon_after_a_miss(&self, month: u32) -> bool {
+        self.last_miss.is_some_and(|earlier| month - earlier <= MISSES_APART)
+    }
+
     fn missed(&mut self, month: u32) -> Event {
-        let earlier = self.last_miss.replace(month);
-        if earlier.is_none_or(|earlier| month - earlier > MISSES_APART) {
+        let soon = self.soon_after_a_miss(month);
+        self.last_miss = Some(month);
+        if !soon {
             return Event::Missed;
         }
         self.misses = true;
@@ -125,7 +137,12 @@ impl Unit {
         Event::ProbationByMisses
     }
 
-    fn sample(&mut self, year: u16, differences: [i32; ANALYTES]) -> Result<Event, Refusal> {
+    fn sample(
+        &mut self,
+        year: u16,
+        differences: [i32; ANALYTES],
+        misidentifications: u8,
+    ) -> Result<Event, Refusal> {
         let same_stretch = self.samples > 0 && self.year == year;
         if same_stretch && usize::from(self.samples) == LONGEST_STRETCH {
             return Err(Refusal::Full);
@@ -139,6 +156,10 @@ impl Unit {
             self.samples = 1;
             self.values = own;
             self.firsts = [1; MOST_CHARTS];
+        }
+        if self.breaks_a_window(misidentifications) {
+            self.stage = Stage::Probation;
+            return Ok(Event::ProbationByWindows);
         }
         if self.any_over() {
             self.stage = Stage::Probation;
@@ -178,6 +199,15 @@ impl Unit {
             *first = if starts_anew && *value == 0 { sample } else { *first };
             *value = (*value + own).max(0);
         }
+    }
+
+    /// Only a window that the last sample ends can be the first to break. Food has none.
+    fn breaks_a_window(&mut self, own: u8) -> bool {
+        let Category::Residue(_) = self.category else { return false };
+        let last = &mut self.misidentifications;
+        last.rotate_right(1);
+        last[0] = own;
+        last[0] + last[1] > 1 || last.iter().sum::<u8>() > 2
     }
 
     pub fn stage(&self) -> Stage {

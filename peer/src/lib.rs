@@ -2,7 +2,8 @@
 //! It shares no table and no constant with the proved crates.
 //!
 //! `unit` keeps the list of accepted lines and reads everything off it, charts by a search over
-//! all runs. `fast` keeps a state and moves it. The two must always answer alike.
+//! all runs, misidentifications by one over all windows. `fast` keeps a state and moves it. The two
+//! must always answer alike.
 
 pub mod arguments;
 pub mod category;
@@ -25,3 +26,4 @@ pub mod single;
 pub mod study;
 pub mod unit;
 pub mod view;
+pub mod windows;

@@ -1,6 +1,6 @@
 //! Lists of lines from a seed, of either category. The fast unit goes along, so that the lists lead
-//! where they should: through sets, admissions, charts at their limits, misses, full stretches and
-//! closing, with a look at the status here and there.
+//! where they should: through sets, admissions, charts at their limits, misses, misidentifications,
+//! full stretches and closing, with a look at the status here and there.
 
 mod clock;
 mod disorder;
@@ -12,6 +12,7 @@ mod misses;
 mod samples;
 mod sets;
 mod theme;
+mod windows;
 
 use crate::category::Category;
 use crate::fast::Unit;
@@ -51,7 +52,7 @@ pub fn list(category: Category, seed: u64, number: u64) -> Vec<u8> {
     let disorder = match theme {
         Theme::Anything if category != Category::Food => random.pick(&[2, 20, 80, 80]),
         Theme::Anything => random.pick(&[0, 2, 20, 80]),
-        Theme::Shown | Theme::Sets => random.pick(&[0, 0, 2, 10]),
+        Theme::Shown | Theme::Sets | Theme::Windows => random.pick(&[0, 0, 2, 10]),
         Theme::Full => random.pick(&[0, 1]),
     };
     let looks = random.pick(&[0, 1, 2]);

@@ -30,7 +30,7 @@ pub struct Line {
     /// The comparison's log in thousandths.
     pub comparison: i16,
     pub outcome: Outcome,
-    /// Misidentifications. They are only kept.
+    /// Misidentifications.
     pub count: u8,
 }
 

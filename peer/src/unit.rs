@@ -8,6 +8,7 @@ use crate::food_line::ANALYTES;
 use crate::head::Head;
 use crate::refused::Refusal;
 use crate::study::{passes, SET};
+use crate::windows::any_broken;
 
 pub const LONGEST_STRETCH: usize = 999;
 /// Misses at most this many months apart open probation.
@@ -32,6 +33,7 @@ pub enum Event {
     Failed,
     ProbationByCharts,
     ProbationByMisses,
+    ProbationByWindows,
 }
 
 impl Event {
@@ -45,7 +47,15 @@ impl Event {
             Event::Failed => [5, 0],
             Event::ProbationByCharts => [6, 0],
             Event::ProbationByMisses => [7, 0],
+            Event::ProbationByWindows => [8, 0],
         }
+    }
+
+    pub fn opens_probation(self) -> bool {
+        matches!(
+            self,
+            Event::ProbationByCharts | Event::ProbationByMisses | Event::ProbationByWindows
+        )
     }
 }
 
@@ -61,7 +71,7 @@ pub struct Status {
 /// What an accepted line is.
 enum Accepted {
     Study([i32; ANALYTES]),
-    Sample(Contributions),
+    Sample { contributions: Contributions, misidentifications: u8 },
     Missed,
 }
 
@@ -109,7 +119,7 @@ impl Unit {
             (Kind::Study, None) => return Err(Refusal::Gap),
             (Kind::Study, Some(own)) => (Accepted::Study(own), self.study(own)),
             (Kind::Maintenance, None) => (Accepted::Missed, self.missed(head)),
-            (Kind::Maintenance, Some(own)) => self.sample(head, &own)?,
+            (Kind::Maintenance, Some(own)) => self.sample(head, &own, seen.misidentifications)?,
         };
         Ok(Entry { head, accepted, event })
     }
@@ -139,6 +149,7 @@ impl Unit {
         &self,
         head: Head,
         differences: &[i32; ANALYTES],
+        misidentifications: u8,
     ) -> Result<(Accepted, Event), Refusal> {
         let own = contributions(&differences[..self.category.analytes()], self.category.turns());
         let mut stretch = match self.last_sample_year() {
@@ -149,11 +160,16 @@ impl Unit {
             return Err(Refusal::Full);
         }
         stretch.push(own.clone());
-        let event = match over(&stretch, self.category.turns()).is_empty() {
-            true => Event::Sample,
-            false => Event::ProbationByCharts,
+        let mut counts = self.misidentifications();
+        counts.push(misidentifications);
+        let event = if any_broken(self.category.windows(), &counts) {
+            Event::ProbationByWindows
+        } else if over(&stretch, self.category.turns()).is_empty() {
+            Event::Sample
+        } else {
+            Event::ProbationByCharts
         };
-        Ok((Accepted::Sample(own), event))
+        Ok((Accepted::Sample { contributions: own, misidentifications }, event))
     }
 
     pub fn status(&self) -> Status {
@@ -176,11 +192,9 @@ impl Unit {
             match entry.event {
                 Event::UnderWay(_) => {}
                 Event::Failed => failed += 1,
-                Event::ProbationByCharts | Event::ProbationByMisses if failed == 0 => {
-                    return Stage::Probation
-                }
-                Event::ProbationByCharts | Event::ProbationByMisses => return Stage::Closed,
-                _ => return Stage::Accredited,
+                event if !event.opens_probation() => return Stage::Accredited,
+                _ if failed == 0 => return Stage::Probation,
+                _ => return Stage::Closed,
             }
         }
         [self.category.first_stage(), Stage::SecondSet, Stage::Closed][failed]
@@ -194,7 +208,7 @@ impl Unit {
     /// The years and contributions of the samples since admission, from the last back.
     fn samples(&self) -> impl Iterator<Item = (u16, &Contributions)> {
         self.since_admission().filter_map(|entry| match &entry.accepted {
-            Accepted::Sample(own) => Some((entry.head.year, own)),
+            Accepted::Sample { contributions, .. } => Some((entry.head.year, contributions)),
             _ => None,
         })
     }
@@ -210,6 +224,15 @@ impl Unit {
         let mut stretch: Vec<Contributions> = same_year.map(|(_, own)| own.clone()).collect();
         stretch.reverse();
         stretch
+    }
+
+    /// The counts of all samples since the unit's start, in order.
+    fn misidentifications(&self) -> Vec<u8> {
+        let counts = self.entries.iter().filter_map(|entry| match entry.accepted {
+            Accepted::Sample { misidentifications, .. } => Some(misidentifications),
+            _ => None,
+        });
+        counts.collect()
     }
 
     /// The lines of the set under way.

@@ -49,5 +49,13 @@ mod tests {
             include_bytes!("../../crates/case_residue_status/stdin"),
             &[("charts: line 5,", "charts: line 12,")],
         );
+        assert_drawn_as_dropped(
+            Category::tested_residue(),
+            include_bytes!("../../crates/case_residue_both/stdin"),
+            &[(
+                "Probation by misidentifications: line 6,",
+                "Probation by misidentifications: line 7,",
+            )],
+        );
     }
 }

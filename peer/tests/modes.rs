@@ -32,3 +32,11 @@ fn residue_lists() {
         }
     }
 }
+
+/// More of the lists about misidentifications, which end in 3, 4 and 7.
+#[test]
+fn window_lists() {
+    for number in (0..500).filter(|number| [3, 4, 7].contains(&(number % 10))) {
+        assert_alike(residue(4), 3, number, 4096);
+    }
+}

@@ -95,12 +95,13 @@ fn a_line_by_its_fields() {
     assert_eq!(read_back(own, b"0307dd050c0427100001f401"), b"0f");
 }
 
-/// h = 1500 gives d = 75: P 20, V 16, D 6667 - 250. After the second D is at 12,834 and over.
+/// h = 1500 gives d = 75: P 20, V 16, D 6667 - 250. After the second D is at 12,834 and over. None
+/// has a misidentification.
 #[test]
 fn the_program() {
     let own = Category::tested_residue();
     assert_eq!(transcript(own, b""), b"020000000000\n");
-    let input = [LINE; 3].join("\n");
+    let input = ["0307dd050c04fc180001f400"; 3].join("\n");
     let expected = "0100\n0600\n0008\n030002000800\n030001000200003222\n";
     assert_eq!(String::from_utf8(transcript(own, input.as_bytes())).unwrap(), expected);
 }

@@ -21,10 +21,19 @@ pub fn fields(draft: &Draft, own: Compound, random: &mut Random) -> Fields {
         comparison: 0,
         tag: FOUND,
         result: 0,
-        count: random.pick(&[0, 0, 0, 1, 2, 20]),
+        count: rare_count(random),
     };
     set_apart(&mut fields, d.signum() * apart, random);
     fields
+}
+
+/// A sample with a misidentification is rare, so that lists come to other ends too.
+fn rare_count(random: &mut Random) -> u8 {
+    match random.below(8000) {
+        0 => random.pick(&[2, 20]),
+        1..=40 => 1,
+        _ => 0,
+    }
 }
 
 /// By how many thousandths a result is at least off whose |d| is this.

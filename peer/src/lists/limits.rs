@@ -24,7 +24,7 @@ impl Author {
         }
     }
 
-    fn difference_near_limit(&mut self, chart: usize, over: Option<usize>) -> i32 {
+    pub(super) fn difference_near_limit(&mut self, chart: usize, over: Option<usize>) -> i32 {
         if self.random.percent(10) && self.chart_v(chart) <= 20 {
             return self.difference_that_takes(chart);
         }
@@ -39,7 +39,7 @@ impl Author {
     }
 
     /// A difference by which the chart gets this, or as much of it as one sample can give.
-    fn difference_that_adds(&mut self, chart: usize, wanted: i32) -> i32 {
+    pub(super) fn difference_that_adds(&mut self, chart: usize, wanted: i32) -> i32 {
         let shift = self.category().turns().shift;
         match chart % KINDS {
             0 => wanted.clamp(-24, 20) + shift,
@@ -76,7 +76,7 @@ impl Author {
 
     /// The value of chart V beside this one. It takes 16 from any sample far off, and is not to be
     /// over first.
-    fn chart_v(&self, chart: usize) -> i32 {
+    pub(super) fn chart_v(&self, chart: usize) -> i32 {
         self.unit.values()[chart / KINDS * KINDS + 2]
     }
 

@@ -47,8 +47,13 @@ impl Author {
     }
 
     fn write(&mut self, draft: Draft) {
-        let text = draft.fields(&mut self.random).text();
-        self.give(&text);
+        let fields = draft.fields(&mut self.random);
+        self.put(&fields);
+    }
+
+    /// A line after which one out of order may follow.
+    pub(super) fn put(&mut self, fields: &Fields) {
+        self.give(&fields.text());
         if self.random.percent(self.disorder) {
             self.out_of_order();
         }

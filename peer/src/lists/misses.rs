@@ -36,6 +36,8 @@ impl Author {
             1 => fields.head().days = 255,
             _ => fields.lose(&mut self.random),
         }
+        // They count nothing.
+        fields.misidentify(&[0, 1, 2, 20], &mut self.random);
         fields
     }
 

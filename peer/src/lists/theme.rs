@@ -12,6 +12,8 @@ pub(super) enum Theme {
     Shown,
     /// Sets at the edges of passing, and misses to come back to them.
     Sets,
+    /// Misidentifications, in residue lists.
+    Windows,
     /// Stretches that fill.
     Full,
 }
@@ -21,6 +23,7 @@ impl Theme {
         match number % 10 {
             2 | 5 | 6 | 8 => Theme::Shown,
             4 if category == Category::Food => Theme::Sets,
+            3 | 4 | 7 if category != Category::Food => Theme::Windows,
             9 => Theme::Full,
             _ => Theme::Anything,
         }
@@ -76,6 +79,7 @@ impl Author {
         match theme {
             Theme::Full => self.fill(),
             Theme::Sets => self.misses(),
+            Theme::Windows => self.windows(),
             Theme::Shown => match self.random.below(12) {
                 0..=4 => self.fine(),
                 5 | 6 => self.soon_over(),

@@ -70,6 +70,7 @@ fn event(line: &[u8]) -> Option<Event> {
         b"05" => Event::Failed,
         b"06" => Event::ProbationByCharts,
         b"07" => Event::ProbationByMisses,
+        b"08" => Event::ProbationByWindows,
         _ => return None,
     })
 }

@@ -32,6 +32,7 @@ pub struct Stretch {
 pub enum Ground {
     Charts,
     Misses,
+    Misidentifications,
 }
 
 /// One admission and all until the next.
@@ -95,7 +96,7 @@ pub fn history(
         }
         let Some(admission) = admissions.last_mut() else { continue };
         admission.take(event, Sample { mark, values: peer.values().to_vec() });
-        if event == Event::ProbationByCharts {
+        if matches!(event, Event::ProbationByCharts | Event::ProbationByWindows) {
             admission.name(status_after(line)?);
         }
     }
@@ -129,6 +130,10 @@ impl Admission {
                 self.add(line);
                 self.probation = Some((mark, Ground::Charts));
             }
+            Event::ProbationByWindows => {
+                self.add(line);
+                self.probation = Some((mark, Ground::Misidentifications));
+            }
             Event::Missed => self.misses.push(mark),
             Event::ProbationByMisses => {
                 self.misses.push(mark);
@@ -145,7 +150,7 @@ impl Admission {
         }
     }
 
-    /// Probation by charts: the status right after it names them.
+    /// A sample opened probation: the status right after it names the charts that are over.
     fn name(&mut self, status: Status) {
         if let Some(stretch) = self.stretches.last_mut() {
             stretch.over = status.over;
@@ -217,6 +222,23 @@ pub mod tests {
         assert_eq!(last.run(0), Some(Run { first: 4, last: 10, sum: 49 }));
         assert_eq!(last.run(3), Some(Run { first: 5, last: 10, sum: 12_000 }));
         assert_eq!((last.run(1), last.run(2)), (None, None));
+    }
+
+    #[test]
+    fn misidentifications_are_a_ground_and_charts_over_stay_named() {
+        let probation = |input: &[u8]| {
+            let history = of_case_in(Category::tested_residue(), input);
+            let [admission] = &history.admissions[..] else { panic!("one admission") };
+            let (mark, ground) = admission.probation.unwrap();
+            assert_eq!(ground, Ground::Misidentifications);
+            let last = admission.stretches.last().unwrap();
+            (mark.line, last.samples.len(), last.over.clone())
+        };
+        let two = probation(include_bytes!("../../../crates/case_residue_two/stdin"));
+        assert_eq!(two, (19, 12, vec![]));
+        let run = Run { first: 1, last: 4, sum: 49 };
+        let both = probation(include_bytes!("../../../crates/case_residue_both/stdin"));
+        assert_eq!(both, (7, 4, vec![Over { chart: 0, run }]));
     }
 
     #[test]

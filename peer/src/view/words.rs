@@ -85,6 +85,14 @@ pub fn stretch(stretch: &Stretch) -> String {
     }
 }
 
+fn word(ground: Ground) -> &'static str {
+    match ground {
+        Ground::Charts => "charts",
+        Ground::Misses => "misses",
+        Ground::Misidentifications => "misidentifications",
+    }
+}
+
 /// Number of the admission, its date, and what came of it.
 pub fn admission(number: usize, admission: &Admission) -> Vec<String> {
     let title = match admission.mark {
@@ -93,11 +101,8 @@ pub fn admission(number: usize, admission: &Admission) -> Vec<String> {
     };
     let probation = match admission.probation {
         None => "No probation.".into(),
-        Some((mark, Ground::Charts)) => {
-            format!("Probation by charts: line {}, {}.", mark.line, date(mark))
-        }
-        Some((mark, Ground::Misses)) => {
-            format!("Probation by misses: line {}, {}.", mark.line, date(mark))
+        Some((mark, ground)) => {
+            format!("Probation by {}: line {}, {}.", word(ground), mark.line, date(mark))
         }
     };
     let samples = match admission.stretches.is_empty() {

@@ -7,6 +7,7 @@ mod refusals;
 mod residue;
 mod sets;
 mod status;
+mod windows;
 
 use crate::list::Case;
 
@@ -40,6 +41,10 @@ pub fn cases() -> Vec<Case> {
         residue::residue_charts(),
         residue::residue_misses(),
         residue::residue_status(),
+        windows::residue_two(),
+        windows::residue_eight(),
+        windows::residue_both(),
+        windows::residue_first(),
     ]
 }
 
@@ -51,11 +56,13 @@ pub struct Hidden {
     pub value: i32,
 }
 
-pub const HIDDEN: [Hidden; 6] = [
+pub const HIDDEN: [Hidden; 8] = [
     Hidden { list: "fat-near-limit", lines: 36 + 11, chart: 8, value: 52 },
     Hidden { list: "fat-near-limit", lines: 36 + 12, chart: 8, value: 51 },
     Hidden { list: "residue-charts", lines: 3, chart: 0, value: 48 },
     Hidden { list: "residue-charts", lines: 3 + 32, chart: 0, value: 48 },
     Hidden { list: "residue-charts", lines: 3 + 32 + 3, chart: 2, value: 43 },
     Hidden { list: "residue-charts", lines: 3 + 32 + 4 + 1, chart: 0, value: -20 },
+    Hidden { list: "residue-eight", lines: 12, chart: 0, value: 48 },
+    Hidden { list: "residue-both", lines: 5, chart: 0, value: 48 },
 ];

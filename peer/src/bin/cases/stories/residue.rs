@@ -8,21 +8,25 @@ use crate::list::Case;
 use crate::plain::{FIELDS, RESIDUE};
 
 /// A sample of that month with this h.
-fn off(year: u16, month: u8, h: i16) -> Fields {
+pub fn off(year: u16, month: u8, h: i16) -> Fields {
     let head = Head { year, month, ..RESIDUE.head };
     Fields { head, result: RESIDUE.comparison + h, ..RESIDUE }
 }
 
-fn lost(year: u16, month: u8) -> Fields {
+pub fn lost(year: u16, month: u8) -> Fields {
     Fields { tag: 2, result: 0, ..off(year, month, 0) }
 }
 
-fn with_days(days: u8, fields: Fields) -> Fields {
+pub fn misidentified(count: u8, fields: Fields) -> Fields {
+    Fields { count, ..fields }
+}
+
+pub fn with_days(days: u8, fields: Fields) -> Fields {
     Fields { head: Head { days, ..fields.head }, ..fields }
 }
 
 /// The text with its third digit no digit.
-fn no_digit(fields: Fields) -> Vec<u8> {
+pub fn no_digit(fields: Fields) -> Vec<u8> {
     let mut text = fields.text();
     text[2] = b'O';
     text
@@ -58,7 +62,7 @@ pub fn low_results() -> Case {
         .line(off(2012, 13, 0), "0004")
         .line(Fields { compound: 5, ..after }, "000e")
         .line(Fields { comparison: 10_000, ..after }, "000f")
-        .line(Fields { count: 21, ..after }, "0007")
+        .line(misidentified(21, after), "0007")
         .line(off(2013, 1, 0), "0008")
         .expect("030004000a00")
         .expect("010001000400000034")
@@ -83,7 +87,7 @@ fn refused_at_the_limit() -> Vec<(Vec<u8>, &'static str)> {
         (Fields { tag: 1, result: 0, ..wrong }, "0007"),
         (Fields { tag: 3, ..wrong }, "0007"),
         (Fields { tag: 2, ..wrong }, "0007"),
-        (Fields { count: 21, ..wrong }, "0007"),
+        (misidentified(21, wrong), "0007"),
         (off(2012, 2, 500), "000a"),
     ];
     refused.extend(lines.map(|(fields, number)| (fields.text(), number)));
@@ -159,12 +163,12 @@ pub fn residue_misses() -> Case {
     let case = Case::residue(
         "residue-misses",
         "A stretch of 999 samples in April 2012: the next sample of the year is refused 12, a \
-         missed line is not. Misses in that April (lost) and in April 2013 (22 days, and far off, \
-         which moves no chart) are 12 months apart; the lost one between them is refused and so \
-         is none. The one in March 2014, 11 months later, opens probation. 21 days are a sample. \
-         The last line has no newline.",
+         missed line is not. Misses in that April (lost) and in April 2013 (22 days, far off and \
+         with 20 misidentifications, which moves no chart and counts for no window) are 12 months \
+         apart; the lost one between them is refused and so is none. The one in March 2014, 11 \
+         months later, opens probation. 21 days are a sample. The last line has no newline.",
     );
-    let spoiled = Fields { count: 21, ..lost(2012, 10) };
+    let spoiled = misidentified(21, lost(2012, 10));
     let mut case = case
         .line(with_days(21, off(2012, 4, 0)), "0100")
         .lines(998, off(2012, 4, 0), "0100")
@@ -172,9 +176,9 @@ pub fn residue_misses() -> Case {
         .line(lost(2012, 4), "0200")
         .line(off(2012, 6, 500), "000c")
         .line(spoiled, "0007")
-        .line(with_days(22, off(2013, 4, 9999)), "0200")
+        .line(misidentified(20, with_days(22, off(2013, 4, 9999))), "0200")
         .line(with_days(21, off(2013, 5, 0)), "0100")
-        .line(Fields { count: 20, ..off(2013, 12, 60) }, "0100")
+        .line(off(2013, 12, 60), "0100")
         .line(off(2014, 1, 0), "0100")
         .line(off(2014, 2, -60), "0100")
         .line(with_days(255, lost(2014, 3)), "0700")
