@@ -27,7 +27,7 @@ sum-drop : (m : ℕ) (xs : List ℕ) → sum (drop m xs) ≤ sum xs
 sum-drop m xs = omega (arith, sum-append (take m xs) (drop m xs), ap sum (take-append-drop m xs))
 
 -- of a list that starts earlier
-pub sum-earlier : (i j : ℕ) (xs : List ℕ) → i ≤ j → sum (drop j xs) ≤ sum (drop i xs)
+sum-earlier : (i j : ℕ) (xs : List ℕ) → i ≤ j → sum (drop j xs) ≤ sum (drop i xs)
 sum-earlier i j xs h =
     let e : i + (j - i) ≡ j = omega arith in
     omega (arith, sum-drop (j - i) (drop i xs), ap sum (drop-drop (j - i) i xs ∙ ap (λ (k : ℕ). drop k xs) e))

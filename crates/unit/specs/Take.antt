@@ -1,5 +1,5 @@
--- Document 01, "Stages" and rows 8 to 12 of "Refused", and document 02, requests One and Three: a new unit, and what a line does to a unit. The definitions of
--- `new_unit`, `new_residue_unit` and `take`.
+-- Document 01, "Stages" and rows 8 to 12 of "Refused", and document 02, requests One and Three: a new unit, and what a line does to a unit. The
+-- definitions of `new_unit`, `new_residue_unit` and `take`.
 use Prim.Native.Nat.{ℕ, zero, suc}
 use mathlib.Core.Bool.{Bool, true, false, cond, not, _&&_, _||_}
 use mathlib.Core.List.{List, [], _∷_, _++_}
@@ -123,7 +123,8 @@ unitRows u x =
 abbrev pub refusedOf : U.Unit → ℕ → Taken
 refusedOf u n = record { event = Refused n; unit = u }
 
--- what an accepted line leaves: the event, and the unit's stage, last accepted month, set, stretch, misses and counts after it; its category stays
+-- what an accepted line leaves: the event, and the unit's stage, last accepted month, set, stretch, misses and latest counts after it; its
+-- category stays
 abbrev pub takenAs : Event → U.Unit → ℕ → ℕ → Set → Stretch → Misses → List ℕ → Taken
 takenAs event u stage month set stretch misses latest =
     record {
