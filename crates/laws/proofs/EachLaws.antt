@@ -9,7 +9,7 @@ use native.Mathlib.Numerals.{add-one}
 use native.Mathlib.Omega.{arith}
 use lib.ListN.{length, getD, set}
 use Rattle.laws.specs.Each.{eachBelow, anyBelow, allBelow}
-use Rattle.laws.proofs.Bools.{either, or-either, or-neither}
+use Rattle.laws.proofs.Bools.{and-both, either, or-either, or-neither}
 
 module _ {A : Type 0} where
   pub each-length : (n : ℕ) (f : ℕ → A → A) (xs : List A) → length (eachBelow n f xs) ≡ length xs
@@ -73,3 +73,10 @@ any-some n f = (
   search-below n f,
   λ p. ⊎-elim (λ e. e) (λ e. absurd (true≢false (sym (p .2) ∙ any-none n f e (p .0) (p .1)))) (either (anyBelow n f)),
 )
+
+-- a test holds at each number below n where `allBelow` says so
+pub all-each : (n : ℕ) (f : ℕ → Bool) → allBelow n f ≡ true → (i : ℕ) → i < n → f i ≡ true
+all-each zero f e i h = absurd (not-suc-le-zero h)
+all-each (suc n) f e i h =
+    let p = and-both (allBelow n f) (f n) e in
+    ⊎-elim (λ (k : i ≡ n). ap f k ∙ p .1) (λ k. all-each n f (p .0) i k) (eq-or-lt-of-le (le-of-suc-le-suc h))

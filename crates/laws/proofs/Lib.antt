@@ -11,3 +11,6 @@ pub mod Signs
 pub mod Lists
 pub mod Gathered
 pub mod EachLaws
+pub mod Lanes
+pub mod Joins
+pub mod Turns
