@@ -1,18 +1,22 @@
 -- What the loops over digits and bytes leave, turn by turn. Assumes nothing.
-use Prim.Native.Nat.{ℕ, zero, suc, _+_, _*_, _<_}
-use mathlib.Core.Path.{_≡_, refl, sym, ap, _∙_}
+use Prim.Native.Nat.{ℕ, zero, suc, _+_, _*_, _<_, _≤_}
+use mathlib.Core.Path.{_≡_, refl, sym, ap, ap₂, _∙_, subst}
 use mathlib.Core.Bool.{true, _&&_, and-true, and-assoc}
 use mathlib.Core.List.{List, [], _∷_, _++_, append-assoc}
+use native.Mathlib.Nat.{add-zero}
 use native.Mathlib.Numerals.{add-one}
 use native.Mathlib.Omega.{arith}
-use lib.ListN.{length, getD, set, take, drop, length-append}
-use lib.Seq.{take-suc, drop-cons, append-snoc, set-at, length-take-le, ext-getD, getD-set-same, getD-set-other}
+use lib.Dec.{lit<}
+use lib.ListN.{length, getD, set, take, drop, length-set, length-append, length-drop, take-append-drop}
+use lib.Seq.{take-suc, take-add, drop-cons, append-snoc, set-at, length-take-le, ext-getD, getD-take, getD-drop, getD-set-same, getD-set-other}
 use borrow.Author.Count.{below-more}
 use Rattle.laws.proofs.Bools.{and-both}
-use Rattle.laws.proofs.Gathered.{with-the-next, each}
-use Rattle.digits.specs.Digits.{isDigit, highDigit, lowDigit, areDigits, bytesOf, digitsOf}
+use Rattle.laws.proofs.Gathered.{joined, with-the-next, each}
+use Rattle.digits.specs.Digits.{isDigit, digitValue, byteOf, highDigit, lowDigit, areDigits, bytesOf, digitsOf}
+use Rattle.digits.specs.Numbers.{numberOf, numberBytes}
 use Rattle.digits.specs.bounds.Part.{pairAt, ReadTo}
-use Rattle.digits.proofs.ByteLaws.{length-bytesOf, length-digitsOf, digitsOf-append}
+use Rattle.digits.proofs.ByteLaws.{length-bytesOf, length-digitsOf, digitsOf-append, bytesOf-are}
+use Rattle.digits.proofs.NumberLaws.{bytes-back}
 
 -- ---- characters looked at in turn
 
@@ -25,6 +29,25 @@ are-more = with-the-next _&&_ true (λ b. refl) and-true and-assoc isDigit areDi
 pub digit-at : (l : List ℕ) (k : ℕ) → areDigits l ≡ true → k < length l → isDigit (getD l k 0) ≡ true
 unfolding areDigits
 digit-at = each _&&_ true (λ b. refl) and-true and-assoc isDigit areDigits refl (λ c l. refl) and-both 0
+
+-- of two parts of them
+parts : (xs ys : List ℕ) → areDigits (xs ++ ys) ≡ (areDigits xs && areDigits ys)
+unfolding areDigits
+parts = joined _&&_ true (λ b. refl) and-true and-assoc isDigit areDigits refl (λ c l. refl)
+
+-- the first k and the n after them
+pub part-more : (l : List ℕ) (k n : ℕ) → (areDigits (take k l) && areDigits (take n (drop k l))) ≡ areDigits (take (k + n) l)
+part-more l k n = sym (ap areDigits (take-add k n l) ∙ parts (take k l) (take n (drop k l)))
+
+-- the first k and the rest
+pub part-rest : (l : List ℕ) (k : ℕ) → (areDigits (take k l) && areDigits (drop k l)) ≡ areDigits l
+part-rest l k = sym (ap areDigits (sym (take-append-drop k l)) ∙ parts (take k l) (drop k l))
+
+-- of digits, n after the first k
+pub part-digits : (l : List ℕ) (k n : ℕ) → areDigits l ≡ true → areDigits (take n (drop k l)) ≡ true
+part-digits l k n d =
+    let first = and-both (areDigits (take (k + n) l)) (areDigits (drop (k + n) l)) (part-rest l (k + n) ∙ d) .0 in
+    and-both (areDigits (take k l)) (areDigits (take n (drop k l))) (part-more l k n ∙ first) .1
 
 -- ---- the byte that digits 2 k and 2 k + 1 write
 
@@ -45,6 +68,22 @@ pub bytes-are : (l bytes : List ℕ) (n : ℕ) → length l ≡ 2 * n → length
 bytes-are l bytes n e m h =
     ext-getD 0 bytes (bytesOf l) (m ∙ sym (length-bytesOf l n e)) (λ k p. h k (omega arith) ∙ sym (bytesOf-at l k (omega arith)))
 
+-- the bytes of the number that 2 n digits at a place write, one by one
+pub part-bytes : (l : List ℕ) (at n : ℕ) → 2 * at + 2 * n ≤ length l → areDigits l ≡ true
+    → (j : ℕ) → j < n → getD (numberBytes n (numberOf (bytesOf (take (2 * n) (drop (2 * at) l))))) j 0 ≡ pairAt l (at + j)
+part-bytes l at n h d j p =
+    let cs = take (2 * n) (drop (2 * at) l) in
+    let long : length cs ≡ 2 * n = length-take-le (2 * n) (drop (2 * at) l) (omega (arith, length-drop (2 * at) l)) in
+    let back : numberBytes n (numberOf (bytesOf cs)) ≡ bytesOf cs =
+    subst (λ (m : ℕ). numberBytes m (numberOf (bytesOf cs)) ≡ bytesOf cs) (length-bytesOf cs n long) (bytes-back (bytesOf cs) (bytesOf-are cs (part-digits l (2 * at) (2 * n) d))) in
+    let there : (i : ℕ) → i < 2 * n → getD cs i 0 ≡ getD l (2 * at + i) 0 = λ i q. getD-take (2 * n) (drop (2 * at) l) i 0 q ∙ getD-drop (2 * at) l i 0 in
+    let first : 2 * at + 2 * j ≡ 2 * (at + j) = omega arith in
+    let second : 2 * at + (2 * j + 1) ≡ 2 * (at + j) + 1 = omega arith in
+    ap (λ (bs : List ℕ). getD bs j 0) back
+    ∙ bytesOf-at cs j (omega arith)
+    ∙ ap₂ (λ (x y : ℕ). byteOf (digitValue x) (digitValue y)) (there (2 * j) (omega arith) ∙ ap (λ (i : ℕ). getD l i 0) first)
+    (there (2 * j + 1) (omega arith) ∙ ap (λ (i : ℕ). getD l i 0) second)
+
 -- ---- a loop that puts one entry after the other, each by the rule f
 
 pub entry-more : (f : ℕ → ℕ) (xs : List ℕ) (i x : ℕ) → i < length xs → ((k : ℕ) → k < i → getD xs k 0 ≡ f k) → x ≡ f i
@@ -53,6 +92,18 @@ entry-more f xs i x p h e =
     below-more (λ (k : ℕ). getD (set xs i x) k 0 ≡ f k) i
     (λ k q. getD-set-other xs i k x 0 (λ (s : k ≡ i). omega arith) ∙ h k q)
     (getD-set-same xs i x 0 p ∙ e)
+
+-- four at once
+pub four-more : (f : ℕ → ℕ) (xs four : List ℕ) (i : ℕ) → i + 4 ≤ length xs → ((k : ℕ) → k < i → getD xs k 0 ≡ f k) → ((j : ℕ) → j < 4 → getD four j 0 ≡ f (i + j))
+    → (k : ℕ) → k < i + 4 → getD (set (set (set (set xs i (getD four 0 0)) (i + 1) (getD four 1 0)) (i + 2) (getD four 2 0)) (i + 3) (getD four 3 0)) k 0 ≡ f k
+four-more f xs four i p h e =
+    let one = set xs i (getD four 0 0) in
+    let two = set one (i + 1) (getD four 1 0) in
+    let three = set two (i + 2) (getD four 2 0) in
+    let h₁ = entry-more f xs i (getD four 0 0) (omega arith) h (e 0 (lit< tt) ∙ ap f (add-zero i)) in
+    let h₂ = entry-more f one (i + 1) (getD four 1 0) (simp length-set (omega arith)) h₁ (e 1 (lit< tt)) in
+    let h₃ = entry-more f two (i + 2) (getD four 2 0) (simp length-set (omega arith)) (λ k q. h₂ k (omega arith)) (e 2 (lit< tt)) in
+    λ k q. entry-more f three (i + 3) (getD four 3 0) (simp length-set (omega arith)) (λ k r. h₃ k (omega arith)) (e 3 (lit< tt)) k (omega arith)
 
 -- ---- the loop that writes the digits in turn: the first i bytes' digits stand before what the buffer held
 

@@ -1,4 +1,4 @@
--- Laws: digits and bytes, numbers and bytes, signed numbers and bytes: each is the other's inverse, at every length and width.
+-- Laws: digits and bytes, numbers and bytes, signed numbers and bytes: each is the other's inverse, at every length and width; and so is the step.
 use Prim.Native.Nat.{ℕ, suc, _*_, _<_}
 use mathlib.Core.Path.{_≡_}
 use mathlib.Core.Bool.{true}
@@ -9,12 +9,18 @@ use lib.Signed.{mag}
 use Rattle.digits.specs.Digits.{areDigits, bytesOf, digitsOf}
 use Rattle.digits.specs.Numbers.{AreBytes, numberOf, numberBytes}
 use Rattle.digits.specs.Signed.{half, signedOf, signedBytes}
+use Rattle.digits.specs.Word.{WRITTEN, stepOf}
+use Rattle.digits.specs.declared.word.Step.the-variants.{Bytes}
 
 abbrev pub DigitsBack : Type 0
 DigitsBack = (digits : List ℕ) (n : ℕ) → length digits ≡ 2 * n → areDigits digits ≡ true → digitsOf (bytesOf digits) ≡ digits
 
 abbrev pub BytesBack : Type 0
 BytesBack = (bytes : List ℕ) → AreBytes bytes → bytesOf (digitsOf bytes) ≡ bytes
+
+-- the step reads the digits of four bytes
+abbrev pub StepBack : Type 0
+StepBack = (bytes : List ℕ) → length bytes ≡ WRITTEN → AreBytes bytes → stepOf (numberOf (digitsOf bytes)) ≡ Bytes (numberOf bytes)
 
 -- of one byte or more
 abbrev pub NumberBack : Type 0

@@ -3,5 +3,7 @@ pub mod Digits
 pub mod Slices
 pub mod Numbers
 pub mod Signed
+pub mod Word
 pub mod Inverse
+pub mod Examples
 pub mod bounds

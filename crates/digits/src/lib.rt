@@ -1,9 +1,11 @@
 // Lowercase hexadecimal digits, two to a byte, and numbers of a few bytes, the high byte first.
 
 mod digit;
+mod load;
 mod number;
 mod read;
 mod signed;
+mod word;
 mod write;
 
 pub use digit::Hex;
@@ -13,6 +15,7 @@ pub use digit::low_digit;
 pub use number::byte_at;
 pub use number::bytes2;
 pub use number::bytes4;
+pub use number::eight;
 pub use number::four;
 pub use number::four_at;
 pub use number::two;
@@ -22,4 +25,6 @@ pub use signed::signed_bytes2;
 pub use signed::signed_bytes4;
 pub use signed::signed2_at;
 pub use signed::signed4_at;
+pub use word::Step;
+pub use word::read_word;
 pub use write::write_digits;

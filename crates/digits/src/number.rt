@@ -1,4 +1,4 @@
-// Numbers of two and four bytes.
+// Numbers of two, four and eight bytes.
 
 ghost use mathlib.Core.Path.{_≡_};
 ghost use mathlib.Core.List.{[], _∷_};
@@ -15,6 +15,13 @@ pub fn four(a: u8, b: u8, c: u8, d: u8) -> u32
     ensures { λ r. ⌜ r ≡ numberOf (a ∷ b ∷ c ∷ d ∷ []) ⌝ }
 {
     (two(a, b) as u32) << 16 | two(c, d) as u32
+}
+
+pub fn eight(a: u8, b: u8, c: u8, d: u8, e: u8, f: u8, g: u8, h: u8) -> u64
+    ensures number { λ r. ⌜ r ≡ numberOf (a ∷ b ∷ c ∷ d ∷ e ∷ f ∷ g ∷ h ∷ []) ⌝ }
+    ensures bytes { λ r. ⌜ numberBytes 8 r ≡ (a ∷ b ∷ c ∷ d ∷ e ∷ f ∷ g ∷ h ∷ []) ⌝ }
+{
+    (four(a, b, c, d) as u64) << 32 | four(e, f, g, h) as u64
 }
 
 // The byte at a place, 0 past the end.

@@ -1,20 +1,42 @@
-// Digits of a slice to bytes. No turn of a loop depends on the one before, so that many are done at
-// once.
+// Digits of a slice to bytes: eight at a time, as words, and the tail, fewer than eight, alone. All are
+// tested before a byte is put, for a refusal changes none.
 
 use crate::digit::byte_of;
 use crate::digit::is_digit;
+use crate::load::word_at;
+use crate::number::bytes4;
+use crate::word::are_eight;
+use crate::word::four_in;
 ghost use mathlib.Core.Path.{_≡_};
 ghost use mathlib.Core.Bool.{true};
 ghost use Prim.Native.Nat.{_*_, _≤_};
-ghost use lib.ListN.{length};
+ghost use lib.ListN.{length, take};
 ghost use Rattle.digits.specs.Digits.{areDigits};
 ghost use Rattle.digits.specs.Slices.{readable, bytesAfter};
+ghost use Rattle.digits.specs.Word.{CHARACTERS, WRITTEN};
 ghost use Rattle.digits.specs.bounds.Part.{ReadTo};
 
-// How many bytes a block has.
-const BLOCK: usize = 16;
+// How many digits a word has, and how many bytes they write.
+const DIGITS: usize = 8;
 
-// Whether all characters are digits.
+const BYTES: usize = DIGITS / 2;
+
+// Whether the characters of so many words are digits. No turn depends on the one before, so that the
+// compiler takes words together.
+fn are_words(digits: &[u8], words: usize) -> bool
+    requires { ⌜ CHARACTERS * words ≤ length (now digits) ⌝ }
+    ensures { λ r. ⌜ r ≡ areDigits (take (CHARACTERS * words) (now (digits .entry))) ⌝ }
+{
+    let mut good = true;
+    let mut k = 0;
+    while k < words {
+        good = good & are_eight(word_at(digits, DIGITS * k));
+        k += 1;
+    }
+    good
+}
+
+// Whether all characters are digits, one by one: for the tail.
 fn are_digits(digits: &[u8]) -> bool
     ensures { λ r. ⌜ r ≡ areDigits (now (digits .entry)) ⌝ }
 {
@@ -27,22 +49,39 @@ fn are_digits(digits: &[u8]) -> bool
     good
 }
 
-// Puts the bytes from one place to another, where those before them stand.
-fn put_part(digits: &[u8], bytes: &mut [u8], from: usize, to: usize)
-    requires { ⌜ (to ≤ length (now bytes)) × (length (now digits) ≡ 2 * length (now bytes)) × (areDigits (now digits) ≡ true) ⌝ }
+// Puts the bytes of so many words.
+fn put_words(digits: &[u8], bytes: &mut [u8], words: usize)
+    requires { ⌜ (WRITTEN * words ≤ length (now bytes)) × (length (now digits) ≡ 2 * length (now bytes)) × (areDigits (now digits) ≡ true) ⌝ }
+    ensures { λ _. ⌜ ReadTo (now (digits .entry)) (WRITTEN * words) (now (bytes .exit)) ⌝ }
+{
+    let mut k = 0;
+    while k < words {
+        let at = BYTES * k;
+        let four = bytes4(four_in(word_at(digits, 2 * at)));
+        bytes[at] = four[0];
+        bytes[at + 1] = four[1];
+        bytes[at + 2] = four[2];
+        bytes[at + 3] = four[3];
+        k += 1;
+    }
+}
+
+// Puts the bytes from one place on, where those before them stand: for the tail.
+fn put_rest(digits: &[u8], bytes: &mut [u8], from: usize)
+    requires { ⌜ (length (now digits) ≡ 2 * length (now bytes)) × (areDigits (now digits) ≡ true) ⌝ }
     requires { ⌜ ReadTo (now digits) from (now bytes) ⌝ }
-    ensures { λ _. ⌜ ReadTo (now (digits .entry)) to (now (bytes .exit)) ⌝ }
+    ensures { λ _. ⌜ ReadTo (now (digits .entry)) (length (now (bytes .entry))) (now (bytes .exit)) ⌝ }
 {
     let mut i = from;
-    while i < to {
+    while i < bytes.len() {
         let at = 2 * i;
         bytes[i] = byte_of(digits[at], digits[at + 1]);
         i += 1;
     }
 }
 
-// Reads digits into lent bytes, whole blocks first: all are digits, and just two for each byte; or
-// else no byte changes.
+// Reads digits into lent bytes: all are digits, and just two for each byte; or else no byte changes.
+// The tail's end goes by the bytes, of which a caller's array tells the compiler how many there are.
 pub fn read_digits(digits: &[u8], bytes: &mut [u8]) -> bool
     ensures answer { λ r. ⌜ r ≡ readable (now (digits .entry)) (now (bytes .entry)) ⌝ }
     ensures bytes { λ r. ⌜ now (bytes .exit) ≡ bytesAfter (now (digits .entry)) (now (bytes .entry)) ⌝ }
@@ -50,15 +89,13 @@ pub fn read_digits(digits: &[u8], bytes: &mut [u8]) -> bool
     if (digits.len() % 2 != 0) | (digits.len() / 2 != bytes.len()) {
         return false;
     }
-    if !are_digits(digits) {
+    let words = bytes.len() / BYTES;
+    let tail = DIGITS * words;
+    let end = 2 * bytes.len();
+    if !(are_words(digits, words) & are_digits(&digits[tail..end])) {
         return false;
     }
-    let mut at = 0;
-    while BLOCK <= bytes.len() - at {
-        let end = at + BLOCK;
-        put_part(digits, bytes, at, end);
-        at = end;
-    }
-    put_part(digits, bytes, at, bytes.len());
+    put_words(digits, bytes, words);
+    put_rest(digits, bytes, BYTES * words);
     true
 }

@@ -1,85 +1,99 @@
--- `read_digits` meets its contract: each return is a case of `readable` and `bytesAfter`. The loop's invariant: the bytes below `at` stand at
--- their places. Assumes nothing.
+-- `read_digits` meets its contract: each return is a case of `readable` and `bytesAfter`. Words and tail are all the characters. Assumes nothing.
 use borrow.Author.Needs.{needs}
 use borrow.Author.Tests.{not-true, not-false}
 use native.Mathlib.Omega.{arith}
-use mathlib.Core.Path.{_≡_, refl, sym, _∙_}
-use mathlib.Core.Bool.{true}
-use Prim.Native.Nat.{_*_, _-_, _≤_}
+use mathlib.Core.Path.{_≡_, sym, ap, ap₂, _∙_}
+use mathlib.Core.Bool.{Bool, true, _&&_}
+use Prim.Native.Nat.{_+_, _-_, _*_, _/_}
 use denote.Ref.{now}
 use lib.ListN.{length}
+use lib.Seq.{take-all}
 use Rattle.digits.specs.Digits.{areDigits}
-use Rattle.digits.specs.bounds.Part.{ReadTo}
-use Rattle.digits.proofs.LoopLaws.{bytes-are}
+use Rattle.digits.proofs.LoopLaws.{part-more, bytes-are}
 use Rattle.digits.proofs.SliceLaws.{twice, wrong-length, no-digits, all-digits}
 use Rattle.digits.proofs.read.read_digits.Statement.{statement}
 use Rattle.digits.proofs.read.read_digits.Tie as tie
 
-abbrev Inv-loop : tie.InvT-loop
-Inv-loop digits bytes₀ at₀ bytes at = (at ≤ length bytes₀) × (length bytes ≡ length bytes₀) × ReadTo digits at bytes
-
-abbrev μ-loop : tie.MeasureT-loop
-μ-loop digits bytes₀ at₀ bytes at = length bytes₀ - at
-
-long : (c : tie.Else1 Inv-loop μ-loop) → length (now (c .before .before .before .args .digits)) ≡ 2 * length (now (c .before .before .before .args .bytes))
+long : (c : tie.Else1) → length (now (c .before .before .before .args .digits)) ≡ 2 * length (now (c .before .before .before .args .bytes))
 long c = twice _ _ (c .if1 .left)
 
-good : (c : tie.Else2 Inv-loop μ-loop) → areDigits (now (c .before .before .before .before .before .args .digits)) ≡ true
-good c = sym (c .before .are-digits .ensures) ∙ not-false _ (c .if2 .left)
+-- what the test says
+tested : (c : tie.After-are-digits) → (c .before .before .are-words .result && c .are-digits .result) ≡ areDigits (now (c .before .before .before .before .before .before .args .digits))
+tested c =
+    let start = c .before .before .before .before .before .before .args in
+    let l = now (start .digits) in
+    let bytes = length (now (start .bytes)) in
+    let tail = 8 * (bytes / 4) in
+    ap₂ (λ (a b : Bool). a && b) (c .before .before .are-words .ensures) (c .are-digits .ensures)
+    ∙ part-more l tail (2 * bytes - tail)
+    ∙ ap areDigits (take-all (tail + (2 * bytes - tail)) l (omega (arith, long (c .before .before .before))))
 
-returns : tie.Need-returns Inv-loop μ-loop
+good : (c : tie.Else2) → areDigits (now (c .before .before .before .before .before .before .before .args .digits)) ≡ true
+good c = sym (tested (c .before)) ∙ not-false _ (c .if2 .left)
+
+returns : tie.Need-returns
 returns c = wrong-length _ _ (c .if1 .taken)
 
-are-digits-requires : tie.Need-are-digits-requires Inv-loop μ-loop
+mul-tail : tie.Need-mul-tail
+mul-tail c = search needs
+
+mul-end : tie.Need-mul-end
+mul-end c = search needs
+
+are-words-requires : tie.Need-are-words-requires
+are-words-requires c κs = omega (arith, long c)
+
+sub-are-digits : tie.Need-sub-are-digits
+sub-are-digits c = search needs
+
+part-are-digits-start : tie.Need-part-are-digits-start
+part-are-digits-start c = search needs
+
+part-are-digits-end : tie.Need-part-are-digits-end
+part-are-digits-end c = omega (arith, long (c .before))
+
+are-digits-requires : tie.Need-are-digits-requires
 are-digits-requires c κs = search needs
 
-returns-2 : tie.Need-returns-2 Inv-loop μ-loop
-returns-2 c = no-digits _ _ (long (c .before .before)) (sym (c .before .are-digits .ensures) ∙ not-true _ (c .if2 .taken))
+returns-2 : tie.Need-returns-2
+returns-2 c = no-digits _ _ (long (c .before .before .before .before)) (sym (tested (c .before)) ∙ not-true _ (c .if2 .taken))
 
-loop-holds : tie.Need-loop-holds Inv-loop μ-loop
-loop-holds c = (omega arith, refl, λ k p. absurd (omega arith))
+put-words-requires : tie.Need-put-words-requires
+put-words-requires c κs = (omega arith, long (c .before .before .before .before .before), good (c .before))
 
-sub-loop : tie.Need-sub-loop Inv-loop μ-loop
-sub-loop c = omega arith
+mul-put-rest : tie.Need-mul-put-rest
+mul-put-rest c = search needs
 
-add-end : tie.Need-add-end Inv-loop μ-loop
-add-end c = search needs
+put-rest-requires : tie.Need-put-rest-requires
+put-rest-requires c κs =
+    let tested = c .before .before .before .before .before in
+    ((omega (arith, long (tested .before .before .before .before)), good tested), c .before .before .before .put-words .ensures)
 
-put-part-requires : tie.Need-put-part-requires Inv-loop μ-loop
-put-part-requires c κs = ((omega arith, omega (arith, long (c .before .before .before .before .before)), good (c .before .before .before)), c .before .before .loop .inv .2)
-
-loop-less : tie.Need-loop-less Inv-loop μ-loop
-loop-less c = omega arith
-
-loop-again : tie.Need-loop-again Inv-loop μ-loop
-loop-again c = (omega arith, search needs, c .before .before .put-part .ensures)
-
-put-part-requires-2 : tie.Need-put-part-requires-2 Inv-loop μ-loop
-put-part-requires-2 c κs = ((omega arith, omega (arith, long (c .before .before .before .before .before)), good (c .before .before .before)), c .before .before .loop .inv .2)
-
-same-length : tie.Need-same-length Inv-loop μ-loop
+same-length : tie.Need-same-length
 same-length c = search needs
 
-returns-3 : tie.Need-returns-3 Inv-loop μ-loop
+returns-3 : tie.Need-returns-3
 returns-3 c =
-    let d = all-digits _ _ (long (c .before .before .before .before .before .before .before .before)) (good (c .before .before .before .before .before .before)) in
-    (d .0, bytes-are _ _ _ (long (c .before .before .before .before .before .before .before .before)) (search needs) (λ k p. c .before .before .put-part2 .ensures k (omega arith)) ∙ d .1)
+    let tested = c .before .before .before .before .before .before .before .before in
+    let l = long (tested .before .before .before .before) in
+    let d = all-digits _ _ l (good tested) in
+    (d .0, bytes-are _ _ _ l (search needs) (λ k p. c .before .before .put-rest .ensures k (omega arith)) ∙ d .1)
 
 pub read-digits-spec : {M : Type 1} → statement M
 read-digits-spec =
     tie.close
     (tie.spec
-    Inv-loop
-    μ-loop
     returns
+    mul-tail
+    mul-end
+    are-words-requires
+    sub-are-digits
+    part-are-digits-start
+    part-are-digits-end
     are-digits-requires
     returns-2
-    loop-holds
-    sub-loop
-    add-end
-    put-part-requires
-    loop-less
-    loop-again
-    put-part-requires-2
+    put-words-requires
+    mul-put-rest
+    put-rest-requires
     same-length
     returns-3)

@@ -1,4 +1,4 @@
--- `put_part` meets its contract. The loop's invariant: the bytes below i stand at their places. Assumes nothing.
+-- `put_rest` meets its contract. The loop's invariant: the bytes below i stand at their places. Assumes nothing.
 use native.Mathlib.Omega.{arith}
 use mathlib.Core.Path.{_≡_, refl}
 use Prim.Native.Nat.{_-_, _*_, _+_}
@@ -6,14 +6,14 @@ use denote.Ref.{now}
 use lib.ListN.{length, length-set}
 use Rattle.digits.specs.bounds.Part.{pairAt, ReadTo}
 use Rattle.digits.proofs.LoopLaws.{digit-at, entry-more}
-use Rattle.digits.proofs.read.put_part.Statement.{statement}
-use Rattle.digits.proofs.read.put_part.Tie as tie
+use Rattle.digits.proofs.read.put_rest.Statement.{statement}
+use Rattle.digits.proofs.read.put_rest.Tie as tie
 
 abbrev Inv-loop : tie.InvT-loop
-Inv-loop digits bytes₀ from to i₀ bytes i = (length bytes ≡ length bytes₀) × ReadTo digits i bytes
+Inv-loop digits bytes₀ from i₀ bytes i = (length bytes ≡ length bytes₀) × ReadTo digits i bytes
 
 abbrev μ-loop : tie.MeasureT-loop
-μ-loop digits bytes₀ from to i₀ bytes i = to - i
+μ-loop digits bytes₀ from i₀ bytes i = length bytes₀ - i
 
 loop-holds : tie.Need-loop-holds Inv-loop μ-loop
 loop-holds c = (refl, c .before .before .pre .1)
@@ -32,7 +32,7 @@ shared-slice-read-byte-of-2 c = omega arith
 
 byte-of-requires : tie.Need-byte-of-requires Inv-loop μ-loop
 byte-of-requires c κs =
-    let good = c .before .before .before .before .before .before .pre .0 .2 in
+    let good = c .before .before .before .before .before .before .pre .0 .1 in
     let i = c .before .before .before .loop .i in
     (digit-at _ (2 * i) good (omega arith), digit-at _ (2 * i + 1) good (omega arith))
 
@@ -57,8 +57,8 @@ same-length c = omega arith
 returns : tie.Need-returns Inv-loop μ-loop
 returns c = λ k p. c .before .loop .inv .1 k (omega arith)
 
-pub put-part-spec : {M : Type 1} → statement M
-put-part-spec =
+pub put-rest-spec : {M : Type 1} → statement M
+put-rest-spec =
     tie.close
     (tie.spec
     Inv-loop

@@ -1,0 +1,134 @@
+-- What the step's arithmetic gives in each lane, and what that says of the character there: computed for each of the 256 bytes. Assumes nothing.
+use mathlib.Core.Path.{_≡_, refl, sym, ap, ap₂, _∙_}
+use mathlib.Core.Bool.{Bool, true, false, cond, _&&_, not, and-true, and-assoc}
+use mathlib.Core.List.{List, [], _∷_, map}
+use Prim.Native.Nat.{ℕ, zero, suc, _+_, _*_, _/_, _%_, _<_, _≤_}
+use native.Mathlib.Nat.{zero-add, le-refl}
+use native.Mathlib.Omega.{arith}
+use borrow.Author.Tests.{ne-eqb, eqb-true, ltb-true, leb-true}
+use lib.Dec.{ltb, leb, eqb, eqb·suc-zero}
+use lib.Bits.{bitAnd, bitOr, bitXor, and-block, or-block, xor-block, and-mask}
+use Rattle.laws.specs.Each.{allBelow}
+use Rattle.laws.proofs.Bools.{and-both}
+use Rattle.laws.proofs.EachLaws.{all-each}
+use Rattle.laws.proofs.Joins.{paired}
+use Rattle.laws.proofs.Lanes.{lanes, Each, each, row, row-sum, row-times, row-same, row-le, row-bit6}
+use Rattle.digits.specs.Digits.{isDigit, digitValue, areDigits, bytesOf}
+use Rattle.digits.specs.bounds.Lanes.{LETTER, letterIn, valueIn}
+
+-- ---- one lane
+
+abbrev pub wrongIn : ℕ → ℕ
+wrongIn b = bitAnd (bitOr (bitXor (bitXor b (32 * letterIn b)) (valueIn b + 0x36)) (valueIn b)) 0xf0
+
+-- a test of each byte, computed for all of them
+of-byte : (t : ℕ → Bool) → allBelow 256 t ≡ true → (b : ℕ) → b < 256 → t b ≡ true
+of-byte = all-each 256
+
+same : Bool → Bool → Bool
+same true b = b
+same false b = not b
+
+same-eq : (a b : Bool) → same a b ≡ true → a ≡ b
+unfolding same
+same-eq true b e = sym e
+same-eq false true e = e
+same-eq false false e = refl
+
+-- nothing is wrong with it exactly where it is a digit
+wrong-is : (b : ℕ) → b < 256 → eqb (wrongIn b) 0 ≡ isDigit b
+unfolding same isDigit
+wrong-is b h = same-eq (eqb (wrongIn b) 0) (isDigit b) (of-byte (λ b. same (eqb (wrongIn b) 0) (isDigit b)) refl b h)
+
+-- a digit's value is below 16, and is what is computed for it
+rightly : ℕ → Bool
+unfolding isDigit digitValue
+rightly b = cond (isDigit b) (eqb (valueIn b) (digitValue b) && ltb (digitValue b) 16) true
+
+value-is : (b : ℕ) → b < 256 → isDigit b ≡ true → (valueIn b ≡ digitValue b) × (digitValue b < 16)
+unfolding rightly
+value-is b h d =
+    let r = and-both (eqb (valueIn b) (digitValue b)) (ltb (digitValue b) 16) (rw d at (of-byte rightly refl b h)) in
+    (eqb-true _ _ (r .0), ltb-true _ _ (r .1))
+
+-- ---- all lanes
+
+-- no lane is wrong exactly when all are digits
+pub none-wrong : (bs : List ℕ) → Each (λ b. b < 256) bs → (x : ℕ) → eqb (lanes 8 wrongIn x bs) 0 ≡ (eqb x 0 && areDigits bs)
+unfolding areDigits
+none-wrong [] h x = sym (and-true (eqb x 0))
+none-wrong (b ∷ bs) h x =
+    none-wrong bs (h .1) (x * 256 + wrongIn b)
+    ∙ ap (λ (t : Bool). t && areDigits bs) (neither x (wrongIn b) ∙ ap (λ (t : Bool). eqb x 0 && t) (wrong-is b (h .0)))
+    ∙ and-assoc (eqb x 0) (isDigit b) (areDigits bs)
+  where
+    neither : (x r : ℕ) → eqb (x * 256 + r) 0 ≡ (eqb x 0 && eqb r 0)
+    neither zero r = ap (λ (n : ℕ). eqb n 0) (zero-add r)
+    neither (suc x) r = ne-eqb (suc x * 256 + r) 0 (λ e. omega arith) ∙ sym (ap (λ (t : Bool). t && eqb r 0) (eqb·suc-zero x))
+
+-- of digits, each value is below 16, and the row of values
+pub values-lt : (bs : List ℕ) → Each (λ b. b < 256) bs → areDigits bs ≡ true → Each (λ v. v < 16) (map digitValue bs)
+unfolding areDigits
+values-lt [] h d = tt
+values-lt (b ∷ bs) h d = let both = and-both (isDigit b) (areDigits bs) d in (value-is b (h .0) (both .0) .1, values-lt bs (h .1) (both .1))
+
+pub values : (bs : List ℕ) → Each (λ b. b < 256) bs → areDigits bs ≡ true → (x : ℕ) → lanes 8 valueIn x bs ≡ lanes 8 (λ v. v) x (map digitValue bs)
+unfolding areDigits
+values [] h d x = refl
+values (b ∷ bs) h d x =
+    let both = and-both (isDigit b) (areDigits bs) d in
+    ap (λ (v : ℕ). lanes 8 valueIn (x * 256 + v) bs) (value-is b (h .0) (both .0) .0) ∙ values bs (h .1) (both .1) (x * 256 + digitValue b)
+
+-- the bytes that digits write are their values joined in pairs
+pub paired-bytes : (bs : List ℕ) → paired 4 (map digitValue bs) ≡ bytesOf bs
+unfolding bytesOf
+paired-bytes [] = refl
+paired-bytes (c ∷ []) = refl
+paired-bytes (h ∷ l ∷ rest) = ap₂ _∷_ (omega arith) (paired-bytes rest)
+
+-- ---- the rows that the step's arithmetic goes through
+
+module _ (bs : List ℕ) (h : Each (λ b. b < 256) bs) where
+  abbrev Row : (ℕ → ℕ) → ℕ
+  Row f = lanes 8 f 0 bs
+
+  -- in each lane a byte: no lane is carried into
+  abbrev Small : (ℕ → ℕ) → Type 0
+  Small f = allBelow 256 (λ b. ltb (f b) 256) ≡ true
+
+  small : (f : ℕ → ℕ) → Small f → Each (λ b. f b < 256) bs
+  small f t = each (λ b p. ltb-true (f b) 256 (of-byte (λ b. ltb (f b) 256) t b p)) bs h
+
+  and-row : (f g : ℕ → ℕ) → Small f → Small g → bitAnd (Row f) (Row g) ≡ Row (λ b. bitAnd (f b) (g b))
+  and-row f g F G = row bitAnd and-block 8 f g bs (small f F) (small g G) 0 0
+
+  or-row : (f g : ℕ → ℕ) → Small f → Small g → bitOr (Row f) (Row g) ≡ Row (λ b. bitOr (f b) (g b))
+  or-row f g F G = row bitOr or-block 8 f g bs (small f F) (small g G) 0 0
+
+  xor-row : (f g : ℕ → ℕ) → Small f → Small g → bitXor (Row f) (Row g) ≡ Row (λ b. bitXor (f b) (g b))
+  xor-row f g F G = row bitXor xor-block 8 f g bs (small f F) (small g G) 0 0
+
+  -- at most m in each lane
+  pub at-most : (f : ℕ → ℕ) (m : ℕ) → allBelow 256 (λ b. leb (f b) m) ≡ true → Row f ≤ Row (λ b. m)
+  at-most f m t = row-le 8 f (λ b. m) bs (each (λ b p. leb-true (f b) m (of-byte (λ b. leb (f b) m) t b p)) bs h) 0 0 (le-refl 0)
+
+  pub letter-row : bitAnd (Row (λ b. b) / 64) (Row (λ b. 1)) ≡ Row letterIn
+  letter-row = row-bit6 bs h 0 0
+
+  pub value-row : bitAnd (Row (λ b. b)) (Row (λ b. 15)) + LETTER * Row letterIn ≡ Row valueIn
+  value-row =
+      ap₂ _+_ (and-row (λ b. b) (λ b. 15) refl refl ∙ row-same 8 (λ b. bitAnd b 15) (λ b. b % 16) (λ b. and-mask b 4) bs 0) (row-times LETTER 8 letterIn bs 0)
+      ∙ row-sum 8 (λ b. b % 16) (λ b. LETTER * letterIn b) bs 0 0
+
+  -- the word w, and the letters l and values v that it gives
+  pub wrong-row : (w l v : ℕ) → w ≡ Row (λ b. b) → l ≡ Row letterIn → v ≡ Row valueIn
+      → bitAnd (bitOr (bitXor (bitXor w (32 * l)) (v + Row (λ b. 0x36))) v) (Row (λ b. 0xf0)) ≡ Row wrongIn
+  wrong-row w l v word letters values =
+      let six-four : 32 * l ≡ Row (λ b. 32 * letterIn b) = ap (λ (x : ℕ). 32 * x) letters ∙ row-times 32 8 letterIn bs 0 in
+      let upper : bitXor w (32 * l) ≡ Row (λ b. bitXor b (32 * letterIn b)) = ap₂ bitXor word six-four ∙ xor-row (λ b. b) (λ b. 32 * letterIn b) refl refl in
+      let added : v + Row (λ b. 0x36) ≡ Row (λ b. valueIn b + 0x36) = ap (λ (x : ℕ). x + Row (λ b. 0x36)) values ∙ row-sum 8 valueIn (λ b. 0x36) bs 0 0 in
+      let apart : bitXor (bitXor w (32 * l)) (v + Row (λ b. 0x36)) ≡ Row (λ b. bitXor (bitXor b (32 * letterIn b)) (valueIn b + 0x36)) =
+      ap₂ bitXor upper added ∙ xor-row (λ b. bitXor b (32 * letterIn b)) (λ b. valueIn b + 0x36) refl refl in
+      ap (λ (x : ℕ). bitAnd x (Row (λ b. 0xf0)))
+      (ap₂ bitOr apart values ∙ or-row (λ b. bitXor (bitXor b (32 * letterIn b)) (valueIn b + 0x36)) valueIn refl refl)
+      ∙ and-row (λ b. bitOr (bitXor (bitXor b (32 * letterIn b)) (valueIn b + 0x36)) (valueIn b)) (λ b. 0xf0) refl refl

@@ -1,0 +1,93 @@
+-- The step's arithmetic, for every word: no lane is wrong exactly when all eight characters are digits, and then the joined values are the number
+-- of the four bytes that they write. Assumes nothing.
+use mathlib.Core.Path.{_≡_, refl, sym, ap, ap₂, _∙_}
+use mathlib.Core.Bool.{true, false}
+use mathlib.Core.List.{List, map}
+use Prim.Native.Nat.{ℕ, _+_, _*_, _/_, _^_, _<_, _≤_}
+use native.Mathlib.Omega.{arith}
+use lib.Dec.{eqb}
+use lib.Bits.{bitAnd, bitOr, bitXor, mask-lt}
+use Rattle.laws.proofs.Joins.{number, paired, seconds, Even, join, paired-lt}
+use Rattle.laws.proofs.Lanes.{lanes, Each}
+use Rattle.rows.specs.Refusal.{DIGIT}
+use Rattle.digits.specs.declared.word.Step.the-variants.{Bytes, Refused}
+use Rattle.digits.specs.Digits.{areDigits, digitValue, bytesOf}
+use Rattle.digits.specs.Numbers.{numberOf}
+use Rattle.digits.specs.Word.{charactersIn, stepOf}
+use Rattle.digits.specs.bounds.Lanes.{LETTER, letterIn, valueIn, eachIn}
+use Rattle.digits.proofs.WordRows.{SECOND-BYTES, SECOND-PAIRS, SECOND-HALF, each-row, word-row, characters-lt}
+use Rattle.digits.proofs.WordDigits.{none-wrong, values-lt, values, letter-row, value-row, wrong-row, at-most, paired-bytes}
+
+-- ---- what the code computes
+
+abbrev pub wrongOf : ℕ → ℕ → ℕ → ℕ
+wrongOf w l v = bitAnd (bitOr (bitXor (bitXor w (32 * l)) (v + 0x3636_3636_3636_3636)) v) 0xf0f0_f0f0_f0f0_f0f0
+
+abbrev halved : ℕ → ℕ → ℕ → ℕ
+halved c mask x = bitAnd (bitOr x (x / 2 ^ c)) mask
+
+abbrev pub fourOf : ℕ → ℕ
+fourOf v = halved 16 SECOND-HALF (halved 8 SECOND-PAIRS (halved 4 SECOND-BYTES v))
+
+pub four-lt : (v : ℕ) → fourOf v < 2 ^ 32
+four-lt v = let x = halved 8 SECOND-PAIRS (halved 4 SECOND-BYTES v) in mask-lt (bitOr x (x / 2 ^ 16)) 32
+
+-- the values joined three times, for as many values as the masks have lanes
+joins : (vs : List ℕ) → Even vs → Even (paired 4 vs) → Even (paired 8 (paired 4 vs)) → Each (λ v. v < 16) vs
+    → halved 16 (seconds 32 0 (paired 8 (paired 4 vs))) (halved 8 (seconds 16 0 (paired 4 vs)) (halved 4 (seconds 8 0 vs) (number 8 0 vs)))
+    ≡ number 64 0 (paired 16 (paired 8 (paired 4 vs)))
+joins vs e₁ e₂ e₃ p =
+    let p₂ = paired-lt 4 vs p in
+    ap (λ (x : ℕ). halved 16 (seconds 32 0 (paired 8 (paired 4 vs))) (halved 8 (seconds 16 0 (paired 4 vs)) x)) (join 4 vs e₁ p 0 0)
+    ∙ ap (λ (x : ℕ). halved 16 (seconds 32 0 (paired 8 (paired 4 vs))) x) (join 8 (paired 4 vs) e₂ p₂ 0 0)
+    ∙ join 16 (paired 8 (paired 4 vs)) e₃ (paired-lt 8 (paired 4 vs) p₂) 0 0
+
+-- ---- and what that is
+
+module _ (w : ℕ) (h : w < 2 ^ 64) where
+  abbrev cs : List ℕ
+  cs = charactersIn w
+
+  pub letters-is : bitAnd (w / 64) 0x0101_0101_0101_0101 ≡ eachIn letterIn w
+  unfolding charactersIn
+  letters-is = ap (λ (x : ℕ). bitAnd (x / 64) 0x0101_0101_0101_0101) (word-row w) ∙ letter-row cs (characters-lt w h) ∙ sym (each-row letterIn w)
+
+  pub letters-le : eachIn letterIn w ≤ 0x0101_0101_0101_0101
+  unfolding charactersIn
+  letters-le = rw (each-row letterIn w) (at-most cs (characters-lt w h) letterIn 1 refl)
+
+  pub values-is : bitAnd w 0x0f0f_0f0f_0f0f_0f0f + LETTER * eachIn letterIn w ≡ eachIn valueIn w
+  unfolding charactersIn
+  values-is =
+      ap₂ (λ (x y : ℕ). bitAnd x 0x0f0f_0f0f_0f0f_0f0f + LETTER * y) (word-row w) (each-row letterIn w)
+      ∙ value-row cs (characters-lt w h)
+      ∙ sym (each-row valueIn w)
+
+  pub values-le : eachIn valueIn w ≤ 0x1818_1818_1818_1818
+  unfolding charactersIn
+  values-le = rw (each-row valueIn w) (at-most cs (characters-lt w h) valueIn 0x18 refl)
+
+  pub wrong-law : eqb (wrongOf w (eachIn letterIn w) (eachIn valueIn w)) 0 ≡ areDigits cs
+  unfolding charactersIn
+  wrong-law =
+      ap (λ (x : ℕ). eqb x 0) (wrong-row cs (characters-lt w h) w (eachIn letterIn w) (eachIn valueIn w) (word-row w) (each-row letterIn w) (each-row valueIn w))
+      ∙ none-wrong cs (characters-lt w h) 0
+
+  pub four-law : areDigits cs ≡ true → fourOf (eachIn valueIn w) ≡ numberOf (bytesOf cs)
+  unfolding charactersIn bytesOf
+  four-law d =
+      ap fourOf (each-row valueIn w ∙ values cs (characters-lt w h) d 0)
+      ∙ joins (map digitValue cs) tt tt tt (values-lt cs (characters-lt w h) d)
+      ∙ ap (λ (bytes : List ℕ). number 64 0 (paired 16 (paired 8 bytes))) (paired-bytes cs)
+      ∙ omega arith
+
+-- ---- the step
+
+module _ (w : ℕ) where
+  pub step-bytes : areDigits (charactersIn w) ≡ true → Bytes (numberOf (bytesOf (charactersIn w))) ≡ stepOf w
+  unfolding stepOf
+  step-bytes d = rw d
+
+  pub step-refused : areDigits (charactersIn w) ≡ false → Refused DIGIT ≡ stepOf w
+  unfolding stepOf
+  step-refused d = rw d

@@ -1,0 +1,70 @@
+// A word of eight characters, the first highest, read at once: document 02, request Four. Whatever the
+// word, nothing here carries or borrows from one character into the next.
+
+use rows::refusal::DIGIT;
+ghost use mathlib.Core.Path.{_≡_};
+ghost use mathlib.Core.Bool.{true};
+ghost use Rattle.digits.specs.Digits.{areDigits, bytesOf};
+ghost use Rattle.digits.specs.Numbers.{numberOf};
+ghost use Rattle.digits.specs.Word.{charactersIn, stepOf};
+ghost use Rattle.digits.specs.bounds.Lanes.{letterIn, valueIn, eachIn};
+
+// The second of each two bytes, of each two pairs of bytes and of the two halves of a word.
+pub const SECOND_BYTES: u64 = 0x00ff_00ff_00ff_00ff;
+
+pub const SECOND_PAIRS: u64 = 0x0000_ffff_0000_ffff;
+
+pub const SECOND_HALF: u64 = 0xffff_ffff;
+
+// What the step gives: the four bytes that the digits of a word write, the first highest, or the
+// number of the refusal.
+pub enum Step {
+    Bytes(u32),
+    Refused(u8),
+}
+
+// Bit 6 of each character.
+fn letters(word: u64) -> u64
+    ensures { λ r. ⌜ r ≡ eachIn letterIn word ⌝ }
+{
+    (word >> 6) & 0x0101_0101_0101_0101
+}
+
+// What each character stands for, if it is a digit.
+fn values(word: u64) -> u64
+    ensures { λ r. ⌜ r ≡ eachIn valueIn word ⌝ }
+{
+    (word & 0x0f0f_0f0f_0f0f_0f0f) + 9 * letters(word)
+}
+
+// The step's test: whether all eight are digits. The upper half of a digit, a letter's 6 taken for a
+// 4, is that of its value with 0x36 added, 3 up to the value 9 and 4 from 10 on; and its value is
+// below 16.
+pub fn are_eight(word: u64) -> bool
+    ensures { λ r. ⌜ r ≡ areDigits (charactersIn word) ⌝ }
+{
+    let value = values(word);
+    let upper = word ^ (32 * letters(word));
+    ((upper ^ (value + 0x3636_3636_3636_3636)) | value) & 0xf0f0_f0f0_f0f0_f0f0 == 0
+}
+
+// The step's bytes, of eight digits: their values joined two by two, three times.
+pub fn four_in(word: u64) -> u32
+    requires { ⌜ areDigits (charactersIn word) ≡ true ⌝ }
+    ensures { λ r. ⌜ r ≡ numberOf (bytesOf (charactersIn word)) ⌝ }
+{
+    let value = values(word);
+    let bytes = (value | (value >> 4)) & SECOND_BYTES;
+    let pairs = (bytes | (bytes >> 8)) & SECOND_PAIRS;
+    ((pairs | (pairs >> 16)) & SECOND_HALF) as u32
+}
+
+// The step: the bytes where all eight are digits, else refusal 2.
+pub fn read_word(word: u64) -> Step
+    ensures { λ r. ⌜ r ≡ stepOf word ⌝ }
+{
+    if are_eight(word) {
+        return Step::Bytes(four_in(word));
+    }
+    Step::Refused(DIGIT)
+}
