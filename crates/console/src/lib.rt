@@ -59,18 +59,17 @@ pub fn new_console(unit: Unit) -> Console
     }
 }
 
-// The part of a line not yet ended, as a console holds it, and how many bytes of the input were in it.
+// How many bytes of a line not yet ended a console holds, and how many of the input were in it.
 struct Part {
     held: usize,
-    bytes: [u8; HELD],
     end: usize,
 }
 
 // Holds what the input has before its first newline, as far as there is room, whatever the
-// console's unit is.
-fn hold(mut held: usize, mut bytes: [u8; HELD], input: &[u8]) -> Part
+// console's unit is. The bytes are lent: passed by value, they were copied twice for each line.
+fn hold(mut held: usize, bytes: &mut [u8; HELD], input: &[u8]) -> Part
     ensures end { λ r. ⌜ Before (now (input .entry)) (r .end) ⌝ }
-    ensures held { λ r. ⌜ Holds held bytes (take (r .end) (now (input .entry))) (r .held) (r .bytes) ⌝ }
+    ensures held { λ r. ⌜ Holds held (now (bytes .entry)) (take (r .end) (now (input .entry))) (r .held) (now (bytes .exit)) ⌝ }
 {
     let end = line_end(input);
     let mut i = 0;
@@ -79,7 +78,7 @@ fn hold(mut held: usize, mut bytes: [u8; HELD], input: &[u8]) -> Part
         held += 1;
         i += 1;
     }
-    Part { held, bytes, end }
+    Part { held, end }
 }
 
 // Takes the input line by line and answers each that ends, an empty one by the status, while the
@@ -103,9 +102,8 @@ pub fn feed(start: Console, input: &[u8], output: &mut [u8]) -> Fed
     let mut taken = 0;
     let mut written = 0;
     while (taken < input.len()) & (STATUS <= output.len() - written) {
-        let part = hold(held, bytes, &input[taken..]);
+        let part = hold(held, &mut bytes, &input[taken..]);
         held = part.held;
-        bytes = part.bytes;
         taken += part.end;
         if taken < input.len() {
             taken += 1;

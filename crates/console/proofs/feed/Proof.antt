@@ -58,22 +58,22 @@ ready c =
 -- ---- after what stands before the next newline is held
 
 abbrev console : tie.After-hold Inv-loop μ-loop → Console
-console c = record { unit = c .before .before .before .loop .unit; held = c .hold .result .held; bytes = c .hold .result .bytes }
+console c = record { unit = c .before .before .before .before .loop .unit; held = c .hold .result .held; bytes = c .hold .last .1 .0 }
 
-end : (c : tie.After-hold Inv-loop μ-loop) → Before (drop (c .before .before .before .loop .taken) (input (c .before .before .before))) (c .hold .result .end)
-end c = rw (all-left (input (c .before .before .before)) (c .before .before .before .loop .taken)) at (c .hold .ensures .0)
+end : (c : tie.After-hold Inv-loop μ-loop) → Before (drop (c .before .before .before .before .loop .taken) (input (c .before .before .before .before))) (c .hold .result .end)
+end c = rw (all-left (input (c .before .before .before .before)) (c .before .before .before .before .loop .taken)) at (c .hold .ensures .0)
 
 -- the invariant holds again
 held
     : (c : tie.After-hold Inv-loop μ-loop)
-    → Going (start (c .before .before .before)) (input (c .before .before .before)) (output (c .before .before .before)) (console c) (c .before .before .before .loop .output)
-    (c .before .before .before .loop .taken + c .hold .result .end) (c .before .before .before .loop .written)
+    → Going (start (c .before .before .before .before)) (input (c .before .before .before .before)) (output (c .before .before .before .before)) (console c) (c .before .before .before .before .loop .output)
+    (c .before .before .before .before .loop .taken + c .hold .result .end) (c .before .before .before .before .loop .written)
 held c =
-    let at = c .before .before .before .loop in
-    rw (c .hold .ensures .1 (at .unit), all-left (input (c .before .before .before)) (at .taken)) (going-part (at .inv .1) (ready (c .before .before) .1) (c .hold .result .end) (end c))
+    let at = c .before .before .before .before .loop in
+    rw (c .hold .ensures .1 (at .unit), all-left (input (c .before .before .before .before)) (at .taken)) (going-part (at .inv .1) (ready (c .before .before .before) .1) (c .hold .result .end) (end c))
 
 here : (c : tie.After-hold Inv-loop μ-loop) → Reached (console c)
-here c = going-made (c .before .before .before .loop .inv .0) (held c)
+here c = going-made (c .before .before .before .before .loop .inv .0) (held c)
 
 -- as many bytes are held as it says
 long-enough : (c : tie.After-hold Inv-loop μ-loop) → length (pending (console c)) ≡ console c .held
@@ -88,10 +88,10 @@ sub-loop : tie.Need-sub-loop Inv-loop μ-loop
 sub-loop c = omega (arith, size c, c .loop .inv .1 .fits)
 
 sub-hold : tie.Need-sub-hold Inv-loop μ-loop
-sub-hold c = omega (arith, ready c .0)
+sub-hold c = omega (arith, ready (c .before) .0)
 
 part-hold-start : tie.Need-part-hold-start Inv-loop μ-loop
-part-hold-start c = omega (arith, ready c .0)
+part-hold-start c = omega (arith, ready (c .before) .0)
 
 part-hold-end : tie.Need-part-hold-end Inv-loop μ-loop
 part-hold-end c = search needs
@@ -100,7 +100,7 @@ hold-requires : tie.Need-hold-requires Inv-loop μ-loop
 hold-requires c κs = search needs
 
 add-taken : tie.Need-add-taken Inv-loop μ-loop
-add-taken c = omega (arith, held (c .before .before) .within, long (c .before .before .before .before .before .before .before .before .before .before))
+add-taken c = omega (arith, held (c .before) .within, long (c .before .before .before .before .before .before .before .before .before .before))
 
 add-taken-2 : tie.Need-add-taken-2 Inv-loop μ-loop
 add-taken-2 c = omega (arith, c .if1 .taken, long (c .before .before .before .before .before .before .before .before .before .before .before))
@@ -118,21 +118,21 @@ loop-again : tie.Need-loop-again Inv-loop μ-loop
 loop-again c =
     let empty = c .before .before .before .before .before .before in
     let more = empty .if1 .taken in
-    let after = empty .before .before .before in
+    let after = empty .before .before in
     let put = c .before .before .put-status in
-    let room = ready (after .before .before) .1 in (
-      after .before .before .before .loop .inv .0,
+    let room = ready (after .before .before .before) .1 in (
+      after .before .before .before .before .loop .inv .0,
       going-empty (held after) room _ (put .last .1 .0) (put .result) more (before-newline _ _ _ (end after) more) (c .before .before .before .before .before .if2 .taken) (c .before .before .before .before .status .ensures .0) (put .ensures .0) (put .ensures .1),
     )
 
 array-share-prefix-bytes : tie.Need-array-share-prefix-bytes Inv-loop μ-loop
-array-share-prefix-bytes c = let m = here (c .before .before .before .before) .3 in omega (arith, m .fits, m .size)
+array-share-prefix-bytes c = let m = here (c .before .before .before) .3 in omega (arith, m .fits, m .size)
 
 slice-aggregate-take : tie.Need-slice-aggregate-take Inv-loop μ-loop
-slice-aggregate-take c = sym (long-enough (c .before .before .before .before .before))
+slice-aggregate-take c = sym (long-enough (c .before .before .before .before))
 
 take-requires : tie.Need-take-requires Inv-loop μ-loop
-take-requires c κs = reached _ (here (c .before .before .before .before .before))
+take-requires c κs = reached _ (here (c .before .before .before .before))
 
 put-answer-requires : tie.Need-put-answer-requires Inv-loop μ-loop
 put-answer-requires c κs = search needs
@@ -144,11 +144,11 @@ loop-again-2 : tie.Need-loop-again-2 Inv-loop μ-loop
 loop-again-2 c =
     let line = c .before .before .before .before .before .before .before .before in
     let more = line .if1 .taken in
-    let after = line .before .before .before in
+    let after = line .before .before in
     let put = c .before .before .put-answer in
-    let room = ready (after .before .before) .1 in
+    let room = ready (after .before .before .before) .1 in
     let some = c .before .before .before .before .before .before .before .if2 .left in (
-      after .before .before .before .loop .inv .0,
+      after .before .before .before .before .loop .inv .0,
       going-given (held after) room (c .before .before .before .before .before .take .result) (put .last .1 .0) (put .result) more (before-newline _ _ _ (end after) more) (λ e. some (sym (long-enough after) ∙ e)) (c .before .before .before .before .before .take .ensures .0) (put .ensures .0) (put .ensures .1),
     )
 
@@ -156,7 +156,7 @@ loop-less-3 : tie.Need-loop-less-3 Inv-loop μ-loop
 loop-less-3 c = omega (arith, ready (c .before .before .before .before .before) .0, c .if1 .left)
 
 loop-again-3 : tie.Need-loop-again-3 Inv-loop μ-loop
-loop-again-3 c = (c .before .before .before .before .before .before .loop .inv .0, held (c .before .before .before))
+loop-again-3 c = (c .before .before .before .before .before .before .loop .inv .0, held (c .before .before))
 
 same-length : tie.Need-same-length Inv-loop μ-loop
 same-length c = size (c .before)

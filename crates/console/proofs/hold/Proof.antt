@@ -15,10 +15,10 @@ use Rattle.console.proofs.hold.Statement.{statement}
 use Rattle.console.proofs.hold.Tie as tie
 
 abbrev Inv-loop : tie.InvT-loop
-Inv-loop held₀ input bytes₀ end i₀ held bytes i = Before input end × (i ≤ end) × Holds held₀ bytes₀ (take i input) held bytes
+Inv-loop held₀ bytes₀ input end i₀ held bytes i = Before input end × (i ≤ end) × Holds held₀ bytes₀ (take i input) held bytes
 
 abbrev μ-loop : tie.MeasureT-loop
-μ-loop held₀ input bytes₀ end i₀ held bytes i = end - i
+μ-loop held₀ bytes₀ input end i₀ held bytes i = end - i
 
 -- in the loop there is a byte, and room for it
 ready : (c : tie.In-loop Inv-loop μ-loop) → (c .before .loop .i < c .before .before .line-end .result) × (c .before .loop .held < HELD)
@@ -33,8 +33,8 @@ loop-holds c = (c .line-end .ensures, omega arith, λ u. refl)
 shared-slice-read-bytes : tie.Need-shared-slice-read-bytes Inv-loop μ-loop
 shared-slice-read-bytes c = omega (arith, ready (c .before) .0, c .before .before .loop .inv .0 .within)
 
-array-write-bytes : tie.Need-array-write-bytes Inv-loop μ-loop
-array-write-bytes c = ready (c .before) .1
+element-write-bytes : tie.Need-element-write-bytes Inv-loop μ-loop
+element-write-bytes c = ready (c .before) .1
 
 add-held : tie.Need-add-held Inv-loop μ-loop
 add-held c = omega (arith, ready (c .before) .1)
@@ -65,7 +65,7 @@ hold-spec =
     line-end-requires
     loop-holds
     shared-slice-read-bytes
-    array-write-bytes
+    element-write-bytes
     add-held
     add-i
     loop-less
