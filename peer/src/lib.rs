@@ -27,3 +27,4 @@ pub mod study;
 pub mod unit;
 pub mod view;
 pub mod windows;
+pub mod word;

@@ -10,6 +10,7 @@ mod residue_lines;
 mod rows;
 mod standard;
 mod stories;
+mod words;
 
 use std::fmt::Write as _;
 use std::path::Path;
@@ -88,6 +89,11 @@ fn standard_files(rows: &[standard::Row]) -> [File; 2] {
     list_files("standard", input.into(), output.into())
 }
 
+fn word_files() -> [File; 2] {
+    let [input, output] = words::texts(&words::rows());
+    list_files("word", input.into(), output.into())
+}
+
 fn lines_table(text: &mut String, rows: &[Row]) {
     for (number, row) in (1..).zip(rows) {
         let outcome = match row.refusal {
@@ -113,6 +119,10 @@ fn readme(cases: &[Case], food: &[Row], residue: &[Row], standard: &[standard::R
     for (number, row) in (1..).zip(standard) {
         let answer = standardize(row.text.as_bytes());
         let _ = writeln!(text, "| {number} | {} | {answer} | {} |", row.text, row.shows);
+    }
+    text += README_WORD;
+    for (number, (word, shows)) in (1..).zip(words::shown()) {
+        let _ = writeln!(text, "| {number} | {word:016x} | {shows} |");
     }
     text
 }
@@ -165,6 +175,17 @@ has an analyte above 3, for which document 01 has no word.
 |---|---|---|---|
 ";
 
+const README_WORD: &str = "
+## word: the step alone
+
+In `crates/case_word`. A row is a word, 16 digits. Answered are the four bytes that its eight
+characters write, as eight digits, or the refusal, 2. After the rows below come 2,048: each of the
+256 bytes in each of the eight places, first place first, among digits that change from row to row.
+
+| row | word | what it shows |
+|---|---|---|
+";
+
 fn main() -> io::Result<()> {
     let cases = stories::cases();
     let (food, residue) = (food_lines::rows(), residue_lines::rows());
@@ -174,6 +195,7 @@ fn main() -> io::Result<()> {
     files.extend(lines_files("lines", Category::Food, &food));
     files.extend(lines_files("residue-lines", Category::tested_residue(), &residue));
     files.extend(standard_files(&standard));
+    files.extend(word_files());
     let readme = readme(&cases, &food, &residue, &standard).into();
     files.push(File { path: "peer/cases/README.md".to_string(), bytes: readme });
 

@@ -1,0 +1,2 @@
+-- What a row stands for.
+pub mod Answer
