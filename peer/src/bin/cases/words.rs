@@ -2,7 +2,7 @@
 
 use peer::word::step;
 
-/// The words that stand apart, each with what the step must give: four bytes, or `NONE`.
+/// The words that stand apart: what each shows, the word, and the four bytes that the step must give, or none.
 const APART: [(&str, u64, Option<u32>); 14] = [
     ("0123abcd", 0x3031_3233_6162_6364, Some(0x0123_abcd)),
     ("00000000, the least", 0x3030_3030_3030_3030, Some(0)),
@@ -37,7 +37,8 @@ fn with(byte: u8, place: usize) -> (u64, Option<u32>) {
         b'a'..=b'f' => Some(u32::from(character - b'a') + 10),
         _ => None,
     };
-    let four = characters.iter().try_fold(0, |four, &character| Some(16 * four + value(character)?));
+    let four =
+        characters.iter().try_fold(0, |four, &character| Some(16 * four + value(character)?));
     (u64::from_be_bytes(characters), four)
 }
 
