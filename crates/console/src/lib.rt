@@ -66,7 +66,7 @@ struct Part {
 }
 
 // Holds what the input has before its first newline, as far as there is room, whatever the
-// console's unit is. The bytes are lent: passed by value, they were copied twice for each line.
+// console's unit is. The bytes are lent, and stay where they are.
 fn hold(mut held: usize, bytes: &mut [u8; HELD], input: &[u8]) -> Part
     ensures end { λ r. ⌜ Before (now (input .entry)) (r .end) ⌝ }
     ensures held { λ r. ⌜ Holds held (now (bytes .entry)) (take (r .end) (now (input .entry))) (r .held) (now (bytes .exit)) ⌝ }

@@ -1,8 +1,6 @@
 -- A word with its characters in the other order, and the characters that stand at a place of a list. Assumes nothing.
-use mathlib.Core.Path.{_≡_, refl, sym, ap, _∙_, subst}
-use mathlib.Core.Bool.{true}
+use mathlib.Core.Path.{_≡_, refl, sym, ap, _∙_}
 use mathlib.Core.List.{List, [], _∷_, reverse, reverseAux, map-id}
-use mathlib.Core.Logic.{⊎-elim}
 use Prim.Native.Nat.{ℕ, zero, suc, _+_, _*_, _/_, _%_, _^_, _<_, _≤_}
 use native.Mathlib.Nat.{add-zero, add-suc, le-refl, lt-of-le-of-lt}
 use native.Mathlib.Omega.{arith}
@@ -11,18 +9,12 @@ use lib.Dec.{lit<}
 use lib.ListN.{length, take, drop, getD}
 use lib.Pow.{shl-exact}
 use lib.Seq.{drop-cons}
-use Rattle.laws.proofs.Bools.{and-both}
 use Rattle.laws.proofs.Joins.{number, paired, paired-lt}
-use Rattle.laws.proofs.Turns.{exchange, exchanged, regrouped, exchange-row, exchanged-each}
-use Rattle.digits.specs.declared.word.Step.the-variants.{Bytes}
-use Rattle.digits.specs.Digits.{ZERO, NINE, LETTER-A, LETTER-F, isDigit, areDigits, bytesOf, digitsOf}
-use Rattle.digits.specs.Inverse.{StepBack}
-use Rattle.digits.specs.Numbers.{BYTE, AreBytes, numberOf, numberBytes}
+use Rattle.laws.proofs.Turns.{exchange, exchanged, regrouped, exchange-row, exchanged-all}
+use Rattle.digits.specs.Numbers.{AreBytes, numberOf}
 use Rattle.digits.specs.Word.{charactersIn}
-use Rattle.digits.proofs.ByteLaws.{length-digitsOf, digitsOf-are, bytes-digits}
-use Rattle.digits.proofs.DigitLaws.{in-range}
-use Rattle.digits.proofs.NumberLaws.{bytes-back, numberBytes-are}
-use Rattle.digits.proofs.WordLaws.{step-bytes}
+use Rattle.digits.proofs.NumberLaws.{numberBytes-are}
+use Rattle.digits.proofs.WordLaws.{characters-of}
 use Rattle.digits.proofs.WordRows.{SECOND-BYTES, SECOND-PAIRS, SECOND-HALF, number-row, word-row, characters-lt}
 
 -- ---- turned
@@ -54,8 +46,8 @@ module _ (w : ℕ) (h : w < 2 ^ 64) where
   turned-row =
       let ones = exchanged cs in
       let twos = exchanged (paired 8 ones) in
-      let lt₂ = paired-lt 8 ones (exchanged-each (λ b. b < 256) cs (characters-lt w h)) in
-      let lt₄ = paired-lt 16 twos (exchanged-each (λ v. v < 2 ^ 16) (paired 8 ones) lt₂) in
+      let lt₂ = paired-lt 8 ones (exchanged-all (λ b. b < 256) cs (characters-lt w h)) in
+      let lt₄ = paired-lt 16 twos (exchanged-all (λ v. v < 2 ^ 16) (paired 8 ones) lt₂) in
       ap turnedOf (word-row w)
       ∙ ap (λ (x : ℕ). exchange 32 SECOND-HALF (exchange 16 SECOND-PAIRS x)) (exchange-row 8 cs tt (characters-lt w h) 0 0 ∙ regrouped 8 ones tt 0)
       ∙ ap (exchange 32 SECOND-HALF) (exchange-row 16 (paired 8 ones) tt lt₂ 0 0 ∙ regrouped 16 twos tt 0)
@@ -66,11 +58,6 @@ are-turned : (xs ys : List ℕ) → AreBytes xs → AreBytes ys → AreBytes (re
 are-turned [] ys A B = B
 are-turned (x ∷ xs) ys A B = are-turned xs (x ∷ ys) (A .1) (A .0, B)
 
--- the characters of the number of eight bytes are these bytes
-pub characters-of : (bs : List ℕ) → length bs ≡ 8 → AreBytes bs → charactersIn (numberOf bs) ≡ bs
-unfolding charactersIn
-characters-of bs l A = subst (λ (n : ℕ). numberBytes n (numberOf bs) ≡ bs) l (bytes-back bs A)
-
 pub turned-law : (w : ℕ) → w < 2 ^ 64
     → charactersIn (shiftedIn 32 SECOND-HALF (shiftedIn 16 SECOND-PAIRS (shiftedIn 8 SECOND-BYTES w))) ≡ reverse (charactersIn w)
 unfolding charactersIn
@@ -78,22 +65,6 @@ turned-law w h =
     let bs = reverse (charactersIn w) in
     ap charactersIn (shifted-turned w ∙ turned-row w h ∙ sym (number-row (λ b. b) bs) ∙ ap numberOf (map-id bs))
     ∙ characters-of bs refl (are-turned (charactersIn w) [] (numberBytes-are 8 w h) tt)
-
--- ---- the step of the digits of four bytes
-
-digits-bytes : (cs : List ℕ) → areDigits cs ≡ true → AreBytes cs
-unfolding areDigits
-digits-bytes [] d = tt
-digits-bytes (c ∷ cs) d =
-    let both = and-both (isDigit c) (areDigits cs) d in
-    let small : c < BYTE = ⊎-elim (λ (p : (ZERO ≤ c) × (c ≤ NINE)). omega arith) (λ (p : (LETTER-A ≤ c) × (c ≤ LETTER-F)). omega arith) (in-range c (both .0)) in
-    (small, digits-bytes cs (both .1))
-
-pub step-back : StepBack
-step-back bytes l A =
-    let d = digitsOf-are bytes A in
-    let cs : charactersIn (numberOf (digitsOf bytes)) ≡ digitsOf bytes = characters-of (digitsOf bytes) (omega (arith, length-digitsOf bytes, l)) (digits-bytes (digitsOf bytes) d) in
-    sym (step-bytes (numberOf (digitsOf bytes)) (ap areDigits cs ∙ d)) ∙ ap (λ (ds : List ℕ). Bytes (numberOf (bytesOf ds))) cs ∙ ap (λ (bs : List ℕ). Bytes (numberOf bs)) (bytes-digits bytes A)
 
 -- ---- the characters at a place
 

@@ -40,7 +40,7 @@ pub part-more : (l : List ℕ) (k n : ℕ) → (areDigits (take k l) && areDigit
 part-more l k n = sym (ap areDigits (take-add k n l) ∙ parts (take k l) (take n (drop k l)))
 
 -- the first k and the rest
-pub part-rest : (l : List ℕ) (k : ℕ) → (areDigits (take k l) && areDigits (drop k l)) ≡ areDigits l
+part-rest : (l : List ℕ) (k : ℕ) → (areDigits (take k l) && areDigits (drop k l)) ≡ areDigits l
 part-rest l k = sym (ap areDigits (sym (take-append-drop k l)) ∙ parts (take k l) (drop k l))
 
 -- of digits, n after the first k

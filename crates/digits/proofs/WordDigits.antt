@@ -12,14 +12,11 @@ use Rattle.laws.specs.Each.{allBelow}
 use Rattle.laws.proofs.Bools.{and-both}
 use Rattle.laws.proofs.EachLaws.{all-each}
 use Rattle.laws.proofs.Joins.{paired}
-use Rattle.laws.proofs.Lanes.{lanes, Each, each, row, row-sum, row-times, row-same, row-le, row-bit6}
+use Rattle.laws.proofs.Lanes.{lanes, AllOf, all-of, row, row-sum, row-times, row-same, row-le, row-bit6}
 use Rattle.digits.specs.Digits.{isDigit, digitValue, areDigits, bytesOf}
-use Rattle.digits.specs.bounds.Lanes.{LETTER, letterIn, valueIn}
+use Rattle.digits.specs.bounds.Found.{LETTER, SIX-FOUR, ADDED, UPPER, letterIn, valueIn, wrongIn}
 
 -- ---- one lane
-
-abbrev pub wrongIn : ℕ → ℕ
-wrongIn b = bitAnd (bitOr (bitXor (bitXor b (32 * letterIn b)) (valueIn b + 0x36)) (valueIn b)) 0xf0
 
 -- a test of each byte, computed for all of them
 of-byte : (t : ℕ → Bool) → allBelow 256 t ≡ true → (b : ℕ) → b < 256 → t b ≡ true
@@ -54,7 +51,7 @@ value-is b h d =
 -- ---- all lanes
 
 -- no lane is wrong exactly when all are digits
-pub none-wrong : (bs : List ℕ) → Each (λ b. b < 256) bs → (x : ℕ) → eqb (lanes 8 wrongIn x bs) 0 ≡ (eqb x 0 && areDigits bs)
+pub none-wrong : (bs : List ℕ) → AllOf (λ b. b < 256) bs → (x : ℕ) → eqb (lanes 8 wrongIn x bs) 0 ≡ (eqb x 0 && areDigits bs)
 unfolding areDigits
 none-wrong [] h x = sym (and-true (eqb x 0))
 none-wrong (b ∷ bs) h x =
@@ -67,12 +64,12 @@ none-wrong (b ∷ bs) h x =
     neither (suc x) r = ne-eqb (suc x * 256 + r) 0 (λ e. omega arith) ∙ sym (ap (λ (t : Bool). t && eqb r 0) (eqb·suc-zero x))
 
 -- of digits, each value is below 16, and the row of values
-pub values-lt : (bs : List ℕ) → Each (λ b. b < 256) bs → areDigits bs ≡ true → Each (λ v. v < 16) (map digitValue bs)
+pub values-lt : (bs : List ℕ) → AllOf (λ b. b < 256) bs → areDigits bs ≡ true → AllOf (λ v. v < 16) (map digitValue bs)
 unfolding areDigits
 values-lt [] h d = tt
 values-lt (b ∷ bs) h d = let both = and-both (isDigit b) (areDigits bs) d in (value-is b (h .0) (both .0) .1, values-lt bs (h .1) (both .1))
 
-pub values : (bs : List ℕ) → Each (λ b. b < 256) bs → areDigits bs ≡ true → (x : ℕ) → lanes 8 valueIn x bs ≡ lanes 8 (λ v. v) x (map digitValue bs)
+pub values : (bs : List ℕ) → AllOf (λ b. b < 256) bs → areDigits bs ≡ true → (x : ℕ) → lanes 8 valueIn x bs ≡ lanes 8 (λ v. v) x (map digitValue bs)
 unfolding areDigits
 values [] h d x = refl
 values (b ∷ bs) h d x =
@@ -88,7 +85,7 @@ paired-bytes (h ∷ l ∷ rest) = ap₂ _∷_ (omega arith) (paired-bytes rest)
 
 -- ---- the rows that the step's arithmetic goes through
 
-module _ (bs : List ℕ) (h : Each (λ b. b < 256) bs) where
+module _ (bs : List ℕ) (h : AllOf (λ b. b < 256) bs) where
   abbrev Row : (ℕ → ℕ) → ℕ
   Row f = lanes 8 f 0 bs
 
@@ -96,8 +93,8 @@ module _ (bs : List ℕ) (h : Each (λ b. b < 256) bs) where
   abbrev Small : (ℕ → ℕ) → Type 0
   Small f = allBelow 256 (λ b. ltb (f b) 256) ≡ true
 
-  small : (f : ℕ → ℕ) → Small f → Each (λ b. f b < 256) bs
-  small f t = each (λ b p. ltb-true (f b) 256 (of-byte (λ b. ltb (f b) 256) t b p)) bs h
+  small : (f : ℕ → ℕ) → Small f → AllOf (λ b. f b < 256) bs
+  small f t = all-of (λ b p. ltb-true (f b) 256 (of-byte (λ b. ltb (f b) 256) t b p)) bs h
 
   and-row : (f g : ℕ → ℕ) → Small f → Small g → bitAnd (Row f) (Row g) ≡ Row (λ b. bitAnd (f b) (g b))
   and-row f g F G = row bitAnd and-block 8 f g bs (small f F) (small g G) 0 0
@@ -110,7 +107,7 @@ module _ (bs : List ℕ) (h : Each (λ b. b < 256) bs) where
 
   -- at most m in each lane
   pub at-most : (f : ℕ → ℕ) (m : ℕ) → allBelow 256 (λ b. leb (f b) m) ≡ true → Row f ≤ Row (λ b. m)
-  at-most f m t = row-le 8 f (λ b. m) bs (each (λ b p. leb-true (f b) m (of-byte (λ b. leb (f b) m) t b p)) bs h) 0 0 (le-refl 0)
+  at-most f m t = row-le 8 f (λ b. m) bs (all-of (λ b p. leb-true (f b) m (of-byte (λ b. leb (f b) m) t b p)) bs h) 0 0 (le-refl 0)
 
   pub letter-row : bitAnd (Row (λ b. b) / 64) (Row (λ b. 1)) ≡ Row letterIn
   letter-row = row-bit6 bs h 0 0
@@ -122,13 +119,13 @@ module _ (bs : List ℕ) (h : Each (λ b. b < 256) bs) where
 
   -- the word w, and the letters l and values v that it gives
   pub wrong-row : (w l v : ℕ) → w ≡ Row (λ b. b) → l ≡ Row letterIn → v ≡ Row valueIn
-      → bitAnd (bitOr (bitXor (bitXor w (32 * l)) (v + Row (λ b. 0x36))) v) (Row (λ b. 0xf0)) ≡ Row wrongIn
+      → bitAnd (bitOr (bitXor (bitXor w (SIX-FOUR * l)) (v + Row (λ b. ADDED))) v) (Row (λ b. UPPER)) ≡ Row wrongIn
   wrong-row w l v word letters values =
-      let six-four : 32 * l ≡ Row (λ b. 32 * letterIn b) = ap (λ (x : ℕ). 32 * x) letters ∙ row-times 32 8 letterIn bs 0 in
-      let upper : bitXor w (32 * l) ≡ Row (λ b. bitXor b (32 * letterIn b)) = ap₂ bitXor word six-four ∙ xor-row (λ b. b) (λ b. 32 * letterIn b) refl refl in
-      let added : v + Row (λ b. 0x36) ≡ Row (λ b. valueIn b + 0x36) = ap (λ (x : ℕ). x + Row (λ b. 0x36)) values ∙ row-sum 8 valueIn (λ b. 0x36) bs 0 0 in
-      let apart : bitXor (bitXor w (32 * l)) (v + Row (λ b. 0x36)) ≡ Row (λ b. bitXor (bitXor b (32 * letterIn b)) (valueIn b + 0x36)) =
-      ap₂ bitXor upper added ∙ xor-row (λ b. bitXor b (32 * letterIn b)) (λ b. valueIn b + 0x36) refl refl in
-      ap (λ (x : ℕ). bitAnd x (Row (λ b. 0xf0)))
-      (ap₂ bitOr apart values ∙ or-row (λ b. bitXor (bitXor b (32 * letterIn b)) (valueIn b + 0x36)) valueIn refl refl)
-      ∙ and-row (λ b. bitOr (bitXor (bitXor b (32 * letterIn b)) (valueIn b + 0x36)) (valueIn b)) (λ b. 0xf0) refl refl
+      let six-four : SIX-FOUR * l ≡ Row (λ b. SIX-FOUR * letterIn b) = ap (λ (x : ℕ). SIX-FOUR * x) letters ∙ row-times SIX-FOUR 8 letterIn bs 0 in
+      let upper : bitXor w (SIX-FOUR * l) ≡ Row (λ b. bitXor b (SIX-FOUR * letterIn b)) = ap₂ bitXor word six-four ∙ xor-row (λ b. b) (λ b. SIX-FOUR * letterIn b) refl refl in
+      let added : v + Row (λ b. ADDED) ≡ Row (λ b. valueIn b + ADDED) = ap (λ (x : ℕ). x + Row (λ b. ADDED)) values ∙ row-sum 8 valueIn (λ b. ADDED) bs 0 0 in
+      let apart : bitXor (bitXor w (SIX-FOUR * l)) (v + Row (λ b. ADDED)) ≡ Row (λ b. bitXor (bitXor b (SIX-FOUR * letterIn b)) (valueIn b + ADDED)) =
+      ap₂ bitXor upper added ∙ xor-row (λ b. bitXor b (SIX-FOUR * letterIn b)) (λ b. valueIn b + ADDED) refl refl in
+      ap (λ (x : ℕ). bitAnd x (Row (λ b. UPPER)))
+      (ap₂ bitOr apart values ∙ or-row (λ b. bitXor (bitXor b (SIX-FOUR * letterIn b)) (valueIn b + ADDED)) valueIn refl refl)
+      ∙ and-row (λ b. bitOr (bitXor (bitXor b (SIX-FOUR * letterIn b)) (valueIn b + ADDED)) (valueIn b)) (λ b. UPPER) refl refl

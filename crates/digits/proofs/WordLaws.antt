@@ -1,27 +1,38 @@
 -- The step's arithmetic, for every word: no lane is wrong exactly when all eight characters are digits, and then the joined values are the number
--- of the four bytes that they write. Assumes nothing.
-use mathlib.Core.Path.{_≡_, refl, sym, ap, ap₂, _∙_}
+-- of the four bytes that they write. So the step is what it should be, and reads the digits of four bytes back. Assumes nothing.
+use mathlib.Core.Path.{_≡_, refl, sym, ap, ap₂, _∙_, subst}
 use mathlib.Core.Bool.{true, false}
-use mathlib.Core.List.{List, map}
+use mathlib.Core.List.{List, [], _∷_, map}
+use mathlib.Core.Logic.{⊎-elim}
 use Prim.Native.Nat.{ℕ, _+_, _*_, _/_, _^_, _<_, _≤_}
 use native.Mathlib.Omega.{arith}
 use lib.Dec.{eqb}
+use lib.ListN.{length}
 use lib.Bits.{bitAnd, bitOr, bitXor, mask-lt}
+use Rattle.laws.proofs.Bools.{and-both}
 use Rattle.laws.proofs.Joins.{number, paired, seconds, Even, join, paired-lt}
-use Rattle.laws.proofs.Lanes.{lanes, Each}
+use Rattle.laws.proofs.Lanes.{lanes, AllOf}
 use Rattle.rows.specs.Refusal.{DIGIT}
-use Rattle.digits.specs.declared.word.Step.the-variants.{Bytes, Refused}
-use Rattle.digits.specs.Digits.{areDigits, digitValue, bytesOf}
-use Rattle.digits.specs.Numbers.{numberOf}
+use Rattle.digits.specs.declared.word.WordBytes.the-variants.{Four, Refused}
+use Rattle.digits.specs.Digits.{ZERO, NINE, LETTER-A, LETTER-F, isDigit, areDigits, digitValue, bytesOf, digitsOf}
+use Rattle.digits.specs.Inverse.{StepBack}
+use Rattle.digits.specs.Numbers.{BYTE, AreBytes, numberOf, numberBytes}
 use Rattle.digits.specs.Word.{charactersIn, stepOf}
-use Rattle.digits.specs.bounds.Lanes.{LETTER, letterIn, valueIn, eachIn}
+use Rattle.digits.specs.bounds.Found.{LETTER, SIX-FOUR, ADDED, UPPER, letterIn, valueIn, eachIn}
+use Rattle.digits.proofs.ByteLaws.{length-digitsOf, digitsOf-are, bytes-digits}
+use Rattle.digits.proofs.DigitLaws.{in-range}
+use Rattle.digits.proofs.NumberLaws.{bytes-back}
 use Rattle.digits.proofs.WordRows.{SECOND-BYTES, SECOND-PAIRS, SECOND-HALF, each-row, word-row, characters-lt}
 use Rattle.digits.proofs.WordDigits.{none-wrong, values-lt, values, letter-row, value-row, wrong-row, at-most, paired-bytes}
 
 -- ---- what the code computes
 
+-- a byte in each place of a word
+abbrev everywhere : ℕ → ℕ
+everywhere b = b * 0x0101_0101_0101_0101
+
 abbrev pub wrongOf : ℕ → ℕ → ℕ → ℕ
-wrongOf w l v = bitAnd (bitOr (bitXor (bitXor w (32 * l)) (v + 0x3636_3636_3636_3636)) v) 0xf0f0_f0f0_f0f0_f0f0
+wrongOf w l v = bitAnd (bitOr (bitXor (bitXor w (SIX-FOUR * l)) (v + everywhere ADDED)) v) (everywhere UPPER)
 
 abbrev halved : ℕ → ℕ → ℕ → ℕ
 halved c mask x = bitAnd (bitOr x (x / 2 ^ c)) mask
@@ -33,7 +44,7 @@ pub four-lt : (v : ℕ) → fourOf v < 2 ^ 32
 four-lt v = let x = halved 8 SECOND-PAIRS (halved 4 SECOND-BYTES v) in mask-lt (bitOr x (x / 2 ^ 16)) 32
 
 -- the values joined three times, for as many values as the masks have lanes
-joins : (vs : List ℕ) → Even vs → Even (paired 4 vs) → Even (paired 8 (paired 4 vs)) → Each (λ v. v < 16) vs
+joins : (vs : List ℕ) → Even vs → Even (paired 4 vs) → Even (paired 8 (paired 4 vs)) → AllOf (λ v. v < 16) vs
     → halved 16 (seconds 32 0 (paired 8 (paired 4 vs))) (halved 8 (seconds 16 0 (paired 4 vs)) (halved 4 (seconds 8 0 vs) (number 8 0 vs)))
     ≡ number 64 0 (paired 16 (paired 8 (paired 4 vs)))
 joins vs e₁ e₂ e₃ p =
@@ -84,10 +95,31 @@ module _ (w : ℕ) (h : w < 2 ^ 64) where
 -- ---- the step
 
 module _ (w : ℕ) where
-  pub step-bytes : areDigits (charactersIn w) ≡ true → Bytes (numberOf (bytesOf (charactersIn w))) ≡ stepOf w
+  pub step-bytes : areDigits (charactersIn w) ≡ true → Four (numberOf (bytesOf (charactersIn w))) ≡ stepOf w
   unfolding stepOf
   step-bytes d = rw d
 
   pub step-refused : areDigits (charactersIn w) ≡ false → Refused DIGIT ≡ stepOf w
   unfolding stepOf
   step-refused d = rw d
+
+-- ---- the step of the digits of four bytes
+
+-- the characters of the number of eight bytes are these bytes
+pub characters-of : (bs : List ℕ) → length bs ≡ 8 → AreBytes bs → charactersIn (numberOf bs) ≡ bs
+unfolding charactersIn
+characters-of bs l A = subst (λ (n : ℕ). numberBytes n (numberOf bs) ≡ bs) l (bytes-back bs A)
+
+are-bytes : (cs : List ℕ) → areDigits cs ≡ true → AreBytes cs
+unfolding areDigits
+are-bytes [] d = tt
+are-bytes (c ∷ cs) d =
+    let both = and-both (isDigit c) (areDigits cs) d in
+    let small : c < BYTE = ⊎-elim (λ (p : (ZERO ≤ c) × (c ≤ NINE)). omega arith) (λ (p : (LETTER-A ≤ c) × (c ≤ LETTER-F)). omega arith) (in-range c (both .0)) in
+    (small, are-bytes cs (both .1))
+
+pub step-back : StepBack
+step-back bytes l A =
+    let d = digitsOf-are bytes A in
+    let cs : charactersIn (numberOf (digitsOf bytes)) ≡ digitsOf bytes = characters-of (digitsOf bytes) (omega (arith, length-digitsOf bytes, l)) (are-bytes (digitsOf bytes) d) in
+    sym (step-bytes (numberOf (digitsOf bytes)) (ap areDigits cs ∙ d)) ∙ ap (λ (ds : List ℕ). Four (numberOf (bytesOf ds))) cs ∙ ap (λ (bs : List ℕ). Four (numberOf bs)) (bytes-digits bytes A)

@@ -5,10 +5,10 @@ use Prim.Native.Nat.{ℕ, _+_, _*_, _^_, _<_}
 use native.Mathlib.Nat.{add-mul, add-assoc, mul-assoc, mul-comm, pow-suc}
 use native.Mathlib.Omega.{arith}
 use lib.ListN.{length, length-map}
-use Rattle.laws.proofs.Lanes.{lanes, Each}
+use Rattle.laws.proofs.Lanes.{lanes, AllOf}
 use Rattle.digits.specs.Numbers.{BYTE, AreBytes, numberOf}
 use Rattle.digits.specs.Word.{charactersIn}
-use Rattle.digits.specs.bounds.Lanes.{eachIn}
+use Rattle.digits.specs.bounds.Found.{eachIn}
 use Rattle.digits.proofs.NumberLaws.{number-back, numberBytes-are}
 
 -- the masks of the code: the second of each two bytes, of each two pairs, of the two halves
@@ -44,10 +44,10 @@ pub word-row : (w : ℕ) → w ≡ lanes 8 (λ b. b) 0 (charactersIn w)
 unfolding charactersIn
 word-row w = sym (number-back 7 w) ∙ ap numberOf (sym (map-id (charactersIn w))) ∙ each-row (λ b. b) w
 
-are-each : (bs : List ℕ) → AreBytes bs → Each (λ b. b < 256) bs
+are-each : (bs : List ℕ) → AreBytes bs → AllOf (λ b. b < 256) bs
 are-each [] A = tt
 are-each (b ∷ bs) A = (A .0, are-each bs (A .1))
 
-pub characters-lt : (w : ℕ) → w < 2 ^ 64 → Each (λ b. b < 256) (charactersIn w)
+pub characters-lt : (w : ℕ) → w < 2 ^ 64 → AllOf (λ b. b < 256) (charactersIn w)
 unfolding charactersIn
 characters-lt w h = are-each (charactersIn w) (numberBytes-are 8 w h)

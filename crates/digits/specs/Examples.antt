@@ -3,10 +3,10 @@ use mathlib.Core.Path.{_≡_, refl}
 use Rattle.rows.specs.Refusal.{DIGIT}
 use Rattle.digits.specs.Digits.{isDigit, digitValue, areDigits, bytesOf}
 use Rattle.digits.specs.Word.{charactersIn, stepOf}
-use Rattle.digits.specs.declared.word.Step.the-variants.{Bytes, Refused}
+use Rattle.digits.specs.declared.word.WordBytes.the-variants.{Four, Refused}
 
 -- 0123abcd, 9f00ffff
-digits : (stepOf 0x3031_3233_6162_6364 ≡ Bytes 0x0123_abcd) × (stepOf 0x3966_3030_6666_6666 ≡ Bytes 0x9f00_ffff)
+digits : (stepOf 0x3031_3233_6162_6364 ≡ Four 0x0123_abcd) × (stepOf 0x3966_3030_6666_6666 ≡ Four 0x9f00_ffff)
 unfolding stepOf charactersIn areDigits isDigit bytesOf digitValue
 digits = (refl, refl)
 

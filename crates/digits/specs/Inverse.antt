@@ -10,7 +10,7 @@ use Rattle.digits.specs.Digits.{areDigits, bytesOf, digitsOf}
 use Rattle.digits.specs.Numbers.{AreBytes, numberOf, numberBytes}
 use Rattle.digits.specs.Signed.{half, signedOf, signedBytes}
 use Rattle.digits.specs.Word.{WRITTEN, stepOf}
-use Rattle.digits.specs.declared.word.Step.the-variants.{Bytes}
+use Rattle.digits.specs.declared.word.WordBytes.the-variants.{Four}
 
 abbrev pub DigitsBack : Type 0
 DigitsBack = (digits : List ℕ) (n : ℕ) → length digits ≡ 2 * n → areDigits digits ≡ true → digitsOf (bytesOf digits) ≡ digits
@@ -20,7 +20,7 @@ BytesBack = (bytes : List ℕ) → AreBytes bytes → bytesOf (digitsOf bytes) �
 
 -- the step reads the digits of four bytes
 abbrev pub StepBack : Type 0
-StepBack = (bytes : List ℕ) → length bytes ≡ WRITTEN → AreBytes bytes → stepOf (numberOf (digitsOf bytes)) ≡ Bytes (numberOf bytes)
+StepBack = (bytes : List ℕ) → length bytes ≡ WRITTEN → AreBytes bytes → stepOf (numberOf (digitsOf bytes)) ≡ Four (numberOf bytes)
 
 -- of one byte or more
 abbrev pub NumberBack : Type 0

@@ -5,8 +5,8 @@ use mathlib.Core.List.{List}
 use Rattle.rows.specs.Refusal.{DIGIT}
 use Rattle.digits.specs.Digits.{areDigits, bytesOf}
 use Rattle.digits.specs.Numbers.{numberOf, numberBytes}
-use Rattle.digits.specs.declared.word.Step.{Step}
-use Rattle.digits.specs.declared.word.Step.the-variants.{Bytes, Refused}
+use Rattle.digits.specs.declared.word.WordBytes.{WordBytes}
+use Rattle.digits.specs.declared.word.WordBytes.the-variants.{Four, Refused}
 
 -- how many characters a word has, and how many bytes they write
 abbrev pub CHARACTERS : ℕ
@@ -19,5 +19,5 @@ unfoldable pub charactersIn : ℕ → List ℕ
 charactersIn word = numberBytes CHARACTERS word
 
 -- the bytes that the characters write, as one number, the first highest, where all of them are digits; else the refusal
-unfoldable pub stepOf : ℕ → Step
-stepOf word = cond (areDigits (charactersIn word)) (Bytes (numberOf (bytesOf (charactersIn word)))) (Refused DIGIT)
+unfoldable pub stepOf : ℕ → WordBytes
+stepOf word = cond (areDigits (charactersIn word)) (Four (numberOf (bytesOf (charactersIn word)))) (Refused DIGIT)

@@ -1,3 +1,3 @@
 -- What the proofs need of the code's numbers, and no part of what digits are.
-pub mod Lanes
+pub mod Found
 pub mod Part

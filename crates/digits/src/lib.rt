@@ -25,6 +25,6 @@ pub use signed::signed_bytes2;
 pub use signed::signed_bytes4;
 pub use signed::signed2_at;
 pub use signed::signed4_at;
-pub use word::Step;
+pub use word::WordBytes;
 pub use word::read_word;
 pub use write::write_digits;

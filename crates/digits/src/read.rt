@@ -1,5 +1,6 @@
-// Digits of a slice to bytes: eight at a time, as words, and the tail, fewer than eight, alone. All are
-// tested before a byte is put, for a refusal changes none.
+// Digits of a slice to bytes: eight at a time, as words, and the tail, fewer than eight, alone. Words
+// go by the two parts of the step, its test and its bytes, of which `read_word` is made: they are
+// called apart, for a refusal changes no byte, so all is tested before the first is put.
 
 use crate::digit::byte_of;
 use crate::digit::is_digit;
@@ -21,8 +22,8 @@ const DIGITS: usize = 8;
 
 const BYTES: usize = DIGITS / 2;
 
-// Whether the characters of so many words are digits. No turn depends on the one before, so that the
-// compiler takes words together.
+// Whether the characters of so many words are digits. No turn ends the loop, so that the compiler
+// takes words together.
 fn are_words(digits: &[u8], words: usize) -> bool
     requires { ⌜ CHARACTERS * words ≤ length (now digits) ⌝ }
     ensures { λ r. ⌜ r ≡ areDigits (take (CHARACTERS * words) (now (digits .entry))) ⌝ }

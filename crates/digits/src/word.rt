@@ -7,7 +7,7 @@ ghost use mathlib.Core.Bool.{true};
 ghost use Rattle.digits.specs.Digits.{areDigits, bytesOf};
 ghost use Rattle.digits.specs.Numbers.{numberOf};
 ghost use Rattle.digits.specs.Word.{charactersIn, stepOf};
-ghost use Rattle.digits.specs.bounds.Lanes.{letterIn, valueIn, eachIn};
+ghost use Rattle.digits.specs.bounds.Found.{letterIn, valueIn, eachIn};
 
 // The second of each two bytes, of each two pairs of bytes and of the two halves of a word.
 pub const SECOND_BYTES: u64 = 0x00ff_00ff_00ff_00ff;
@@ -18,8 +18,8 @@ pub const SECOND_HALF: u64 = 0xffff_ffff;
 
 // What the step gives: the four bytes that the digits of a word write, the first highest, or the
 // number of the refusal.
-pub enum Step {
-    Bytes(u32),
+pub enum WordBytes {
+    Four(u32),
     Refused(u8),
 }
 
@@ -37,9 +37,10 @@ fn values(word: u64) -> u64
     (word & 0x0f0f_0f0f_0f0f_0f0f) + 9 * letters(word)
 }
 
-// The step's test: whether all eight are digits. The upper half of a digit, a letter's 6 taken for a
-// 4, is that of its value with 0x36 added, 3 up to the value 9 and 4 from 10 on; and its value is
-// below 16.
+// The step's test: whether all eight are digits. A character is one exactly where its upper half, a
+// 6 with bit 6 set taken for a 4, is that of its value with 0x36 added, which is 3 up to the value 9
+// and 4 from 10 on, and its value is below 16: so with bit 6 clear 3 above and 0 to 9 below, and with
+// it set 6 above and 1 to 6 below.
 pub fn are_eight(word: u64) -> bool
     ensures { λ r. ⌜ r ≡ areDigits (charactersIn word) ⌝ }
 {
@@ -60,11 +61,11 @@ pub fn four_in(word: u64) -> u32
 }
 
 // The step: the bytes where all eight are digits, else refusal 2.
-pub fn read_word(word: u64) -> Step
+pub fn read_word(word: u64) -> WordBytes
     ensures { λ r. ⌜ r ≡ stepOf word ⌝ }
 {
     if are_eight(word) {
-        return Step::Bytes(four_in(word));
+        return WordBytes::Four(four_in(word));
     }
-    Step::Refused(DIGIT)
+    WordBytes::Refused(DIGIT)
 }

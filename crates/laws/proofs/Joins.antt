@@ -1,5 +1,5 @@
 -- Neighbouring lanes joined: `(x | x >> c) & mask` of a row of lanes of c + c bits, each filled only to c bits, with the low half of every
--- second lane kept. Each pair of lanes h and l becomes one lane of twice the width that holds h · 2^c + l. One law for every c.
+-- second lane kept. AllOf pair of lanes h and l becomes one lane of twice the width that holds h · 2^c + l. One law for every c.
 -- Assumes nothing.
 use mathlib.Core.Path.{_≡_, refl, sym, ap, ap₂, _∙_}
 use mathlib.Core.List.{List, [], _∷_}
@@ -8,8 +8,9 @@ use native.Mathlib.Nat.{add-mul, mul-assoc, mul-right-comm, add-comm, mod-lt, lt
 use lib.Arith.{digits-lt, digits-div, digits-mod}
 use lib.Bits.{bitAnd, bitOr, and-block, and-mask, or-mod, or-shr, or-shifted-r}
 use lib.Pow.{pow-pos, pow-mono, pow-add, split, shr-shr, mod-mod-pow, ones-lt, shl-lt}
-use Rattle.laws.proofs.Lanes.{lanes, Each}
+use Rattle.laws.proofs.Lanes.{lanes, AllOf}
 
+-- the number that entries make as lanes of k bits, after what stands above
 abbrev pub number : ℕ → ℕ → List ℕ → ℕ
 number k = lanes k (λ x. x)
 
@@ -73,7 +74,7 @@ module _ (c x h l : ℕ) (H : h < 2 ^ c) (L : l < 2 ^ c) where
       (or-shr more (more / 2 ^ c) (c + c + (c + c)) ∙ ap₂ bitOr above above-shifted)
       (or-mod more (more / 2 ^ c) (c + c) ∙ ap₂ bitOr (digits-mod (x * 2 ^ (c + c) + h) (small L)) shifted-low ∙ or-shifted-r h c l L)
 
-pub join : (c : ℕ) (vs : List ℕ) → Even vs → Each (λ v. v < 2 ^ c) vs
+pub join : (c : ℕ) (vs : List ℕ) → Even vs → AllOf (λ v. v < 2 ^ c) vs
     → (x y : ℕ) → bitAnd (bitOr (number (c + c) x vs) (number (c + c) x vs / 2 ^ c)) (seconds (c + c) y vs) ≡ number (c + c + (c + c)) (bitAnd (bitOr x (x / 2 ^ c)) y) (paired c vs)
 join c [] e p x y = refl
 join c (h ∷ []) e p x y = absurd e
@@ -81,7 +82,7 @@ join c (h ∷ l ∷ rest) e p x y =
     join c rest e (p .1 .1) ((x * 2 ^ (c + c) + h) * 2 ^ (c + c) + l) (y * 2 ^ (c + c + (c + c)) + (2 ^ (c + c) - 1))
     ∙ ap (λ (z : ℕ). number (c + c + (c + c)) z (paired c rest)) (join-two c x h l (p .0) (p .1 .0) y)
 
-pub paired-lt : (c : ℕ) (vs : List ℕ) → Each (λ v. v < 2 ^ c) vs → Each (λ v. v < 2 ^ (c + c)) (paired c vs)
+pub paired-lt : (c : ℕ) (vs : List ℕ) → AllOf (λ v. v < 2 ^ c) vs → AllOf (λ v. v < 2 ^ (c + c)) (paired c vs)
 paired-lt c [] p = tt
 paired-lt c (h ∷ []) p = tt
 paired-lt c (h ∷ l ∷ rest) p = (rw pow-add (digits-lt (p .0) (p .1 .0)), paired-lt c rest (p .1 .1))

@@ -13,17 +13,17 @@ abbrev pub lanes : ℕ → (ℕ → ℕ) → ℕ → List ℕ → ℕ
 lanes k f above [] = above
 lanes k f above (b ∷ bs) = lanes k f (above * 2 ^ k + f b) bs
 
-abbrev pub Each : (ℕ → Type 0) → List ℕ → Type 0
-Each P [] = Unit {0}
-Each P (b ∷ bs) = P b × Each P bs
+abbrev pub AllOf : (ℕ → Type 0) → List ℕ → Type 0
+AllOf P [] = Unit {0}
+AllOf P (b ∷ bs) = P b × AllOf P bs
 
-pub each : {P Q : ℕ → Type 0} → ((b : ℕ) → P b → Q b) → (bs : List ℕ) → Each P bs → Each Q bs
-each f [] h = tt
-each f (b ∷ bs) h = (f b (h .0), each f bs (h .1))
+pub all-of : {P Q : ℕ → Type 0} → ((b : ℕ) → P b → Q b) → (bs : List ℕ) → AllOf P bs → AllOf Q bs
+all-of f [] h = tt
+all-of f (b ∷ bs) h = (f b (h .0), all-of f bs (h .1))
 
 -- an operation that works on the k low bits and on those above apart
 pub row : (op : ℕ → ℕ → ℕ) → ((k a b r s : ℕ) → r < 2 ^ k → s < 2 ^ k → op (a * 2 ^ k + r) (b * 2 ^ k + s) ≡ op a b * 2 ^ k + op r s)
-    → (k : ℕ) (f g : ℕ → ℕ) (bs : List ℕ) → Each (λ b. f b < 2 ^ k) bs → Each (λ b. g b < 2 ^ k) bs
+    → (k : ℕ) (f g : ℕ → ℕ) (bs : List ℕ) → AllOf (λ b. f b < 2 ^ k) bs → AllOf (λ b. g b < 2 ^ k) bs
     → (x y : ℕ) → op (lanes k f x bs) (lanes k g y bs) ≡ lanes k (λ b. op (f b) (g b)) (op x y) bs
 row op block k f g [] F G x y = refl
 row op block k f g (b ∷ bs) F G x y =
@@ -52,7 +52,7 @@ pub row-same : (k : ℕ) (f g : ℕ → ℕ) → ((b : ℕ) → f b ≡ g b) →
 row-same k f g e [] x = refl
 row-same k f g e (b ∷ bs) x = row-same k f g e bs (x * 2 ^ k + f b) ∙ ap (λ (n : ℕ). lanes k g (x * 2 ^ k + n) bs) (e b)
 
-pub row-le : (k : ℕ) (f g : ℕ → ℕ) (bs : List ℕ) → Each (λ b. f b ≤ g b) bs → (x y : ℕ) → x ≤ y → lanes k f x bs ≤ lanes k g y bs
+pub row-le : (k : ℕ) (f g : ℕ → ℕ) (bs : List ℕ) → AllOf (λ b. f b ≤ g b) bs → (x y : ℕ) → x ≤ y → lanes k f x bs ≤ lanes k g y bs
 row-le k f g [] e x y h = h
 row-le k f g (b ∷ bs) e x y h = row-le k f g bs (e .1) (x * 2 ^ k + f b) (y * 2 ^ k + g b) (add-le-add (mul-le-mul-right (2 ^ k) h) (e .0))
 
@@ -65,7 +65,7 @@ bit6 x b y h =
     ∙ and-block 8 (x / 64) y low 1 (omega arith) (omega arith)
     ∙ omega (arith, and-mask low 1)
 
-pub row-bit6 : (bs : List ℕ) → Each (λ b. b < 256) bs
+pub row-bit6 : (bs : List ℕ) → AllOf (λ b. b < 256) bs
     → (x y : ℕ) → bitAnd (lanes 8 (λ b. b) x bs / 64) (lanes 8 (λ b. 1) y bs) ≡ lanes 8 (λ b. b / 64 % 2) (bitAnd (x / 64) y) bs
 row-bit6 [] h x y = refl
 row-bit6 (b ∷ bs) h x y =

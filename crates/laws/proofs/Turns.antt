@@ -7,7 +7,7 @@ use native.Mathlib.Nat.{add-mul, add-assoc, mul-assoc, mul-right-comm, lt-of-lt-
 use lib.Arith.{digits-div, digits-mod}
 use lib.Bits.{bitAnd, bitOr, or-block, or-shifted}
 use lib.Pow.{pow-add, pow-mono, shr-shr, shl-lt}
-use Rattle.laws.proofs.Lanes.{Each}
+use Rattle.laws.proofs.Lanes.{AllOf}
 use Rattle.laws.proofs.Joins.{number, paired, seconds, Even, low-kept}
 
 abbrev pub exchanged : List ℕ → List ℕ
@@ -66,7 +66,7 @@ module _ (c x h l : ℕ) (H : h < 2 ^ c) (L : l < 2 ^ c) (y : ℕ) where
       ∙ ap (λ (n : ℕ). exchange c y x * 2 ^ (c + c) + n) (or-shifted l c h H)
       ∙ sym (two-lanes c (exchange c y x) l h)
 
-pub exchange-row : (c : ℕ) (vs : List ℕ) → Even vs → Each (λ v. v < 2 ^ c) vs
+pub exchange-row : (c : ℕ) (vs : List ℕ) → Even vs → AllOf (λ v. v < 2 ^ c) vs
     → (x y : ℕ) → exchange c (seconds c y vs) (number c x vs) ≡ number c (exchange c y x) (exchanged vs)
 exchange-row c [] e p x y = refl
 exchange-row c (h ∷ []) e p x y = absurd e
@@ -74,7 +74,7 @@ exchange-row c (h ∷ l ∷ rest) e p x y =
     exchange-row c rest e (p .1 .1) ((x * 2 ^ c + h) * 2 ^ c + l) (y * 2 ^ (c + c) + (2 ^ c - 1))
     ∙ ap (λ (n : ℕ). number c n (exchanged rest)) (exchange-two c x h l (p .0) (p .1 .0) y)
 
-pub exchanged-each : (P : ℕ → Type 0) (vs : List ℕ) → Each P vs → Each P (exchanged vs)
-exchanged-each P [] p = tt
-exchanged-each P (h ∷ []) p = p
-exchanged-each P (h ∷ l ∷ rest) p = (p .1 .0, (p .0, exchanged-each P rest (p .1 .1)))
+pub exchanged-all : (P : ℕ → Type 0) (vs : List ℕ) → AllOf P vs → AllOf P (exchanged vs)
+exchanged-all P [] p = tt
+exchanged-all P (h ∷ []) p = p
+exchanged-all P (h ∷ l ∷ rest) p = (p .1 .0, (p .0, exchanged-all P rest (p .1 .1)))

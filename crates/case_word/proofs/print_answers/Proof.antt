@@ -6,7 +6,7 @@ use Rattle.case_word.proofs.print_answers.Statement.{statement}
 use Rattle.case_word.proofs.print_answers.Tie as tie
 
 abbrev Inv-loop : tie.InvT-loop
-Inv-loop rows i₀ i-end i = (i ≤ i-end) × (17 * i-end ≤ length rows)
+Inv-loop rows i₀ i-end i = (i ≤ i-end) × (9 * i-end ≤ length rows)
 
 abbrev μ-loop : tie.MeasureT-loop
 μ-loop rows i₀ i-end i = i-end - i

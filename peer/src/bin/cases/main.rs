@@ -90,8 +90,8 @@ fn standard_files(rows: &[standard::Row]) -> [File; 2] {
 }
 
 fn word_files() -> [File; 2] {
-    let [input, output] = words::texts(&words::rows());
-    list_files("word", input.into(), output.into())
+    let (input, output) = words::texts(&words::rows());
+    list_files("word", input, output.into())
 }
 
 fn lines_table(text: &mut String, rows: &[Row]) {
@@ -178,9 +178,10 @@ has an analyte above 3, for which document 01 has no word.
 const README_WORD: &str = "
 ## word: the step alone
 
-In `crates/case_word`. A row is a word, 16 digits. Answered are the four bytes that its eight
-characters write, as eight digits, or the refusal, 2. After the rows below come 2,048: each of the
-256 bytes in each of the eight places, first place first, among digits that change from row to row.
+In `crates/case_word`. A row is the eight characters of a word, whatever bytes they are, and a
+newline; below they stand in hexadecimal. Answered are the four bytes that they write, as eight
+digits, or the refusal, 2. After the rows below come 2,048: each of the 256 bytes in each of the
+eight places, first place first, among digits that change from row to row.
 
 | row | word | what it shows |
 |---|---|---|

@@ -28,7 +28,7 @@ fn around(byte: u8, place: usize) -> [u8; PLACES] {
     std::array::from_fn(|other| DIGITS[(usize::from(byte) + 5 * place + 7 * other) % DIGITS.len()])
 }
 
-/// What the word with one byte in a place is: that of the digit there, or nothing.
+/// The word with a byte in a place, digits around it, and what its digits stand for, or nothing where one is no digit.
 fn with(byte: u8, place: usize) -> (u64, Option<u32>) {
     let mut characters = around(byte, place);
     characters[place] = byte;
@@ -53,14 +53,14 @@ pub fn rows() -> Vec<(u64, Option<u32>)> {
     rows
 }
 
-/// The rows as the program reads and answers them.
-pub fn texts(rows: &[(u64, Option<u32>)]) -> [String; 2] {
+/// The rows as the program reads them, eight characters each, and as it answers them.
+pub fn texts(rows: &[(u64, Option<u32>)]) -> (Vec<u8>, String) {
+    let words = rows.iter().flat_map(|(word, _)| [&word.to_be_bytes()[..], b"\n"].concat());
     let answer = |four: &Option<u32>| match four {
         Some(four) => format!("{four:08x}\n"),
         None => "refused 2\n".to_string(),
     };
-    let words = rows.iter().map(|(word, _)| format!("{word:016x}\n")).collect();
-    [words, rows.iter().map(|(_, four)| answer(four)).collect()]
+    (words.collect(), rows.iter().map(|(_, four)| answer(four)).collect())
 }
 
 /// What the words apart show.

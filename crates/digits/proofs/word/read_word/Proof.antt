@@ -1,7 +1,7 @@
 -- `read_word` meets its contract: each return is a case of `stepOf`. Assumes nothing.
 use mathlib.Core.Path.{sym, ap, _∙_}
 use borrow.Author.Needs.{needs}
-use Rattle.digits.specs.declared.word.Step.the-variants.{Bytes}
+use Rattle.digits.specs.declared.word.WordBytes.the-variants.{Four}
 use Rattle.digits.proofs.WordLaws.{step-bytes, step-refused}
 use Rattle.digits.proofs.word.read_word.Statement.{statement}
 use Rattle.digits.proofs.word.read_word.Tie as tie
@@ -15,7 +15,7 @@ four-in-requires c κs = sym (c .before .are-eight .ensures) ∙ c .if1 .taken
 returns : tie.Need-returns
 returns c =
     let call = c .before .before in
-    ap Bytes (c .four-in .ensures) ∙ step-bytes (call .before .args .word) (sym (call .are-eight .ensures) ∙ c .before .if1 .taken)
+    ap Four (c .four-in .ensures) ∙ step-bytes (call .before .args .word) (sym (call .are-eight .ensures) ∙ c .before .if1 .taken)
 
 returns-2 : tie.Need-returns-2
 returns-2 c = step-refused (c .before .before .args .word) (sym (c .before .are-eight .ensures) ∙ c .if1 .left)

@@ -4,7 +4,7 @@ use native.Mathlib.Omega.{arith}
 use Prim.Native.Nat.{ℕ, _+_, _*_}
 use lib.Bits.{bitAnd, and-le-r}
 use borrow.Author.Needs.{needs}
-use Rattle.digits.specs.bounds.Lanes.{LETTER}
+use Rattle.digits.specs.bounds.Found.{LETTER}
 use Rattle.digits.proofs.WordLaws.{letters-le, values-is}
 use Rattle.digits.proofs.word.values.Statement.{statement}
 use Rattle.digits.proofs.word.values.Tie as tie

@@ -1,6 +1,7 @@
 -- What the step finds in each character of a word, all at once: private functions say by it what they make of a word.
 use Prim.Native.Nat.{ℕ, _+_, _*_, _/_, _%_}
 use mathlib.Core.List.{map}
+use lib.Bits.{bitAnd, bitOr, bitXor}
 use Rattle.digits.specs.Numbers.{numberOf}
 use Rattle.digits.specs.Word.{charactersIn}
 
@@ -15,6 +16,22 @@ LETTER = 9
 -- what a character stands for, if it is a digit
 abbrev pub valueIn : ℕ → ℕ
 valueIn c = c % 16 + LETTER * letterIn c
+
+-- the bit in which a letter's upper half, 6, differs from 4
+abbrev pub SIX-FOUR : ℕ
+SIX-FOUR = 32
+
+-- what takes a value up to 9 to an upper half of 3, and one from 10 on to 4
+abbrev pub ADDED : ℕ
+ADDED = 0x36
+
+-- the upper half of a character
+abbrev pub UPPER : ℕ
+UPPER = 0xf0
+
+-- what is wrong with a character: 0 exactly where it is a digit
+abbrev pub wrongIn : ℕ → ℕ
+wrongIn c = bitAnd (bitOr (bitXor (bitXor c (SIX-FOUR * letterIn c)) (valueIn c + ADDED)) (valueIn c)) UPPER
 
 -- the word that has f of each character in its place
 abbrev pub eachIn : (ℕ → ℕ) → ℕ → ℕ
