@@ -8,4 +8,4 @@ pub mod SignedLaws
 pub mod SliceLaws
 pub mod WordDigits
 pub mod WordLaws
-pub mod WordRows
+pub mod WordLanes

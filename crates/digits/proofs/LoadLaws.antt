@@ -15,7 +15,7 @@ use Rattle.digits.specs.Numbers.{AreBytes, numberOf}
 use Rattle.digits.specs.Word.{charactersIn}
 use Rattle.digits.proofs.NumberLaws.{numberBytes-are}
 use Rattle.digits.proofs.WordLaws.{characters-of}
-use Rattle.digits.proofs.WordRows.{SECOND-BYTES, SECOND-PAIRS, SECOND-HALF, number-row, word-row, characters-lt}
+use Rattle.digits.proofs.WordLanes.{SECOND-BYTES, SECOND-PAIRS, SECOND-HALF, number-row, word-row, characters-lt}
 
 -- ---- turned
 

@@ -1,6 +1,6 @@
 -- What the loops over digits and bytes leave, turn by turn. Assumes nothing.
 use Prim.Native.Nat.{ℕ, zero, suc, _+_, _*_, _<_, _≤_}
-use mathlib.Core.Path.{_≡_, refl, sym, ap, ap₂, _∙_, subst}
+use mathlib.Core.Path.{_≡_, refl, sym, ap, ap₂, _∙_}
 use mathlib.Core.Bool.{true, _&&_, and-true, and-assoc}
 use mathlib.Core.List.{List, [], _∷_, _++_, append-assoc}
 use native.Mathlib.Nat.{add-zero}
@@ -16,7 +16,7 @@ use Rattle.digits.specs.Digits.{isDigit, digitValue, byteOf, highDigit, 
 use Rattle.digits.specs.Numbers.{numberOf, numberBytes}
 use Rattle.digits.specs.bounds.Part.{pairAt, ReadTo}
 use Rattle.digits.proofs.ByteLaws.{length-bytesOf, length-digitsOf, digitsOf-append, bytesOf-are}
-use Rattle.digits.proofs.NumberLaws.{bytes-back}
+use Rattle.digits.proofs.NumberLaws.{bytes-back-at}
 
 -- ---- characters looked at in turn
 
@@ -75,7 +75,7 @@ part-bytes l at n h d j p =
     let cs = take (2 * n) (drop (2 * at) l) in
     let long : length cs ≡ 2 * n = length-take-le (2 * n) (drop (2 * at) l) (omega (arith, length-drop (2 * at) l)) in
     let back : numberBytes n (numberOf (bytesOf cs)) ≡ bytesOf cs =
-    subst (λ (m : ℕ). numberBytes m (numberOf (bytesOf cs)) ≡ bytesOf cs) (length-bytesOf cs n long) (bytes-back (bytesOf cs) (bytesOf-are cs (part-digits l (2 * at) (2 * n) d))) in
+    bytes-back-at n (bytesOf cs) (length-bytesOf cs n long) (bytesOf-are cs (part-digits l (2 * at) (2 * n) d)) in
     let there : (i : ℕ) → i < 2 * n → getD cs i 0 ≡ getD l (2 * at + i) 0 = λ i q. getD-take (2 * n) (drop (2 * at) l) i 0 q ∙ getD-drop (2 * at) l i 0 in
     let first : 2 * at + 2 * j ≡ 2 * (at + j) = omega arith in
     let second : 2 * at + (2 * j + 1) ≡ 2 * (at + j) + 1 = omega arith in

@@ -1,6 +1,6 @@
 -- Numbers and their bytes: each is the other's inverse, at every width. Assumes nothing.
 use Prim.Native.Nat.{ℕ, zero, suc, _+_, _*_, _/_, _%_, _^_, _<_, _≤_}
-use mathlib.Core.Path.{_≡_, refl, ap, ap₂, _∙_}
+use mathlib.Core.Path.{_≡_, refl, ap, ap₂, _∙_, subst}
 use mathlib.Core.List.{List, [], _∷_}
 use native.Mathlib.Nat.{pow-suc, mod-lt, mod-eq-of-lt, div-eq-of-lt, div-add-mod', div-lt-iff-lt-mul, mul-add-div-right, mul-add-mod-self-right, mul-le-mul-right, add-zero}
 use native.Mathlib.Omega.{arith}
@@ -48,6 +48,10 @@ bytes-back (b ∷ c ∷ bs) A =
     let high : (b * p + m) / p ≡ b = mul-add-div-right (positive (length rest)) b m ∙ ap (λ (k : ℕ). b + k) (div-eq-of-lt small) ∙ add-zero b in
     let low : (b * p + m) % p ≡ m = mul-add-mod-self-right b p m ∙ mod-eq-of-lt small in
     ap₂ (λ (x y : ℕ). x ∷ numberBytes (length rest) y) high low ∙ ap (λ (l : List ℕ). b ∷ l) (bytes-back (c ∷ bs) (A .1))
+
+-- as many bytes as a length says
+pub bytes-back-at : (n : ℕ) (bs : List ℕ) → length bs ≡ n → AreBytes bs → numberBytes n (numberOf bs) ≡ bs
+bytes-back-at n bs l A = subst (λ (m : ℕ). numberBytes m (numberOf bs) ≡ bs) l (bytes-back bs A)
 
 -- ---- a number that is not too large has bytes
 

@@ -15,6 +15,7 @@ use Rattle.laws.proofs.Joins.{paired}
 use Rattle.laws.proofs.Lanes.{lanes, AllOf, all-of, row, row-sum, row-times, row-same, row-le, row-bit6}
 use Rattle.digits.specs.Digits.{isDigit, digitValue, areDigits, bytesOf}
 use Rattle.digits.specs.bounds.Found.{LETTER, SIX-FOUR, ADDED, UPPER, letterIn, valueIn, wrongIn}
+use Rattle.digits.proofs.DigitLaws.{value-lt}
 
 -- ---- one lane
 
@@ -37,16 +38,14 @@ wrong-is : (b : ℕ) → b < 256 → eqb (wrongIn b) 0 ≡ isDigit b
 unfolding same isDigit
 wrong-is b h = same-eq (eqb (wrongIn b) 0) (isDigit b) (of-byte (λ b. same (eqb (wrongIn b) 0) (isDigit b)) refl b h)
 
--- a digit's value is below 16, and is what is computed for it
+-- a digit's value is what is computed for it
 rightly : ℕ → Bool
 unfolding isDigit digitValue
-rightly b = cond (isDigit b) (eqb (valueIn b) (digitValue b) && ltb (digitValue b) 16) true
+rightly b = cond (isDigit b) (eqb (valueIn b) (digitValue b)) true
 
-value-is : (b : ℕ) → b < 256 → isDigit b ≡ true → (valueIn b ≡ digitValue b) × (digitValue b < 16)
+value-is : (b : ℕ) → b < 256 → isDigit b ≡ true → valueIn b ≡ digitValue b
 unfolding rightly
-value-is b h d =
-    let r = and-both (eqb (valueIn b) (digitValue b)) (ltb (digitValue b) 16) (rw d at (of-byte rightly refl b h)) in
-    (eqb-true _ _ (r .0), ltb-true _ _ (r .1))
+value-is b h d = eqb-true (valueIn b) (digitValue b) (rw d at (of-byte rightly refl b h))
 
 -- ---- all lanes
 
@@ -64,17 +63,17 @@ none-wrong (b ∷ bs) h x =
     neither (suc x) r = ne-eqb (suc x * 256 + r) 0 (λ e. omega arith) ∙ sym (ap (λ (t : Bool). t && eqb r 0) (eqb·suc-zero x))
 
 -- of digits, each value is below 16, and the row of values
-pub values-lt : (bs : List ℕ) → AllOf (λ b. b < 256) bs → areDigits bs ≡ true → AllOf (λ v. v < 16) (map digitValue bs)
+pub values-lt : (bs : List ℕ) → areDigits bs ≡ true → AllOf (λ v. v < 16) (map digitValue bs)
 unfolding areDigits
-values-lt [] h d = tt
-values-lt (b ∷ bs) h d = let both = and-both (isDigit b) (areDigits bs) d in (value-is b (h .0) (both .0) .1, values-lt bs (h .1) (both .1))
+values-lt [] d = tt
+values-lt (b ∷ bs) d = let both = and-both (isDigit b) (areDigits bs) d in (value-lt b (both .0), values-lt bs (both .1))
 
 pub values : (bs : List ℕ) → AllOf (λ b. b < 256) bs → areDigits bs ≡ true → (x : ℕ) → lanes 8 valueIn x bs ≡ lanes 8 (λ v. v) x (map digitValue bs)
 unfolding areDigits
 values [] h d x = refl
 values (b ∷ bs) h d x =
     let both = and-both (isDigit b) (areDigits bs) d in
-    ap (λ (v : ℕ). lanes 8 valueIn (x * 256 + v) bs) (value-is b (h .0) (both .0) .0) ∙ values bs (h .1) (both .1) (x * 256 + digitValue b)
+    ap (λ (v : ℕ). lanes 8 valueIn (x * 256 + v) bs) (value-is b (h .0) (both .0)) ∙ values bs (h .1) (both .1) (x * 256 + digitValue b)
 
 -- the bytes that digits write are their values joined in pairs
 pub paired-bytes : (bs : List ℕ) → paired 4 (map digitValue bs) ≡ bytesOf bs

@@ -1,5 +1,5 @@
 -- The step's arithmetic, for every word: no lane is wrong exactly when all eight characters are digits, and then the joined values are the number
--- of the four bytes that they write. So the step is what it should be, and reads the digits of four bytes back. Assumes nothing.
+-- of the four bytes that they write. So the step is what it should be, and reading and writing are inverse. Assumes nothing.
 use mathlib.Core.Path.{_≡_, refl, sym, ap, ap₂, _∙_, subst}
 use mathlib.Core.Bool.{true, false}
 use mathlib.Core.List.{List, [], _∷_, map}
@@ -9,20 +9,21 @@ use native.Mathlib.Omega.{arith}
 use lib.Dec.{eqb}
 use lib.ListN.{length}
 use lib.Bits.{bitAnd, bitOr, bitXor, mask-lt}
-use Rattle.laws.proofs.Bools.{and-both}
+use Rattle.laws.proofs.Bools.{and-both, either}
 use Rattle.laws.proofs.Joins.{number, paired, seconds, Even, join, paired-lt}
-use Rattle.laws.proofs.Lanes.{lanes, AllOf}
+use Rattle.laws.proofs.Lanes.{AllOf}
 use Rattle.rows.specs.Refusal.{DIGIT}
+use Rattle.digits.specs.declared.word.WordBytes.{WordBytes}
 use Rattle.digits.specs.declared.word.WordBytes.the-variants.{Four, Refused}
 use Rattle.digits.specs.Digits.{ZERO, NINE, LETTER-A, LETTER-F, isDigit, areDigits, digitValue, bytesOf, digitsOf}
-use Rattle.digits.specs.Inverse.{StepBack}
+use Rattle.digits.specs.Inverse.{StepBack, StepWordBack}
 use Rattle.digits.specs.Numbers.{BYTE, AreBytes, numberOf, numberBytes}
-use Rattle.digits.specs.Word.{charactersIn, stepOf}
+use Rattle.digits.specs.Word.{CHARACTERS, WRITTEN, charactersIn, stepOf}
 use Rattle.digits.specs.bounds.Found.{LETTER, SIX-FOUR, ADDED, UPPER, letterIn, valueIn, eachIn}
-use Rattle.digits.proofs.ByteLaws.{length-digitsOf, digitsOf-are, bytes-digits}
+use Rattle.digits.proofs.ByteLaws.{length-bytesOf, length-digitsOf, digitsOf-are, bytesOf-are, bytes-digits, digits-bytes}
 use Rattle.digits.proofs.DigitLaws.{in-range}
-use Rattle.digits.proofs.NumberLaws.{bytes-back}
-use Rattle.digits.proofs.WordRows.{SECOND-BYTES, SECOND-PAIRS, SECOND-HALF, each-row, word-row, characters-lt}
+use Rattle.digits.proofs.NumberLaws.{length-numberBytes, number-back, bytes-back-at}
+use Rattle.digits.proofs.WordLanes.{SECOND-BYTES, SECOND-PAIRS, SECOND-HALF, each-row, word-row, characters-lt}
 use Rattle.digits.proofs.WordDigits.{none-wrong, values-lt, values, letter-row, value-row, wrong-row, at-most, paired-bytes}
 
 -- ---- what the code computes
@@ -34,6 +35,7 @@ everywhere b = b * 0x0101_0101_0101_0101
 abbrev pub wrongOf : ℕ → ℕ → ℕ → ℕ
 wrongOf w l v = bitAnd (bitOr (bitXor (bitXor w (SIX-FOUR * l)) (v + everywhere ADDED)) v) (everywhere UPPER)
 
+-- neighbouring lanes joined: half as many, twice as wide
 abbrev halved : ℕ → ℕ → ℕ → ℕ
 halved c mask x = bitAnd (bitOr x (x / 2 ^ c)) mask
 
@@ -88,7 +90,7 @@ module _ (w : ℕ) (h : w < 2 ^ 64) where
   unfolding charactersIn bytesOf
   four-law d =
       ap fourOf (each-row valueIn w ∙ values cs (characters-lt w h) d 0)
-      ∙ joins (map digitValue cs) tt tt tt (values-lt cs (characters-lt w h) d)
+      ∙ joins (map digitValue cs) tt tt tt (values-lt cs d)
       ∙ ap (λ (bytes : List ℕ). number 64 0 (paired 16 (paired 8 bytes))) (paired-bytes cs)
       ∙ omega arith
 
@@ -106,9 +108,9 @@ module _ (w : ℕ) where
 -- ---- the step of the digits of four bytes
 
 -- the characters of the number of eight bytes are these bytes
-pub characters-of : (bs : List ℕ) → length bs ≡ 8 → AreBytes bs → charactersIn (numberOf bs) ≡ bs
+pub characters-of : (bs : List ℕ) → length bs ≡ CHARACTERS → AreBytes bs → charactersIn (numberOf bs) ≡ bs
 unfolding charactersIn
-characters-of bs l A = subst (λ (n : ℕ). numberBytes n (numberOf bs) ≡ bs) l (bytes-back bs A)
+characters-of = bytes-back-at CHARACTERS
 
 are-bytes : (cs : List ℕ) → areDigits cs ≡ true → AreBytes cs
 unfolding areDigits
@@ -123,3 +125,26 @@ step-back bytes l A =
     let d = digitsOf-are bytes A in
     let cs : charactersIn (numberOf (digitsOf bytes)) ≡ digitsOf bytes = characters-of (digitsOf bytes) (omega (arith, length-digitsOf bytes, l)) (are-bytes (digitsOf bytes) d) in
     sym (step-bytes (numberOf (digitsOf bytes)) (ap areDigits cs ∙ d)) ∙ ap (λ (ds : List ℕ). Four (numberOf (bytesOf ds))) cs ∙ ap (λ (bs : List ℕ). Four (numberOf bs)) (bytes-digits bytes A)
+
+-- which of the two it is, and the number in it
+isFour : WordBytes → Type 0
+isFour (Four n) = Unit {0}
+isFour (Refused r) = ⊥
+
+inFour : WordBytes → ℕ
+inFour (Four n) = n
+inFour (Refused r) = 0
+
+pub step-word-back : StepWordBack
+unfolding charactersIn isFour inFour
+step-word-back w n e =
+    ⊎-elim
+    (λ d.
+    let cs = charactersIn w in
+    let long : length cs ≡ 2 * WRITTEN = length-numberBytes CHARACTERS w in
+    let number : n ≡ numberOf (bytesOf cs) = ap inFour (sym (step-bytes w d ∙ e)) in
+    let bytes : numberBytes WRITTEN n ≡ bytesOf cs =
+    ap (numberBytes WRITTEN) number ∙ bytes-back-at WRITTEN (bytesOf cs) (length-bytesOf cs WRITTEN long) (bytesOf-are cs d) in
+    ap (λ (bs : List ℕ). numberOf (digitsOf bs)) bytes ∙ ap numberOf (digits-bytes cs WRITTEN long d) ∙ number-back 7 w)
+    (λ d. absurd (subst isFour (sym (step-refused w d ∙ e)) tt))
+    (either (areDigits (charactersIn w)))

@@ -18,9 +18,12 @@ DigitsBack = (digits : List ℕ) (n : ℕ) → length digits ≡ 2 * n → areDi
 abbrev pub BytesBack : Type 0
 BytesBack = (bytes : List ℕ) → AreBytes bytes → bytesOf (digitsOf bytes) ≡ bytes
 
--- the step reads the digits of four bytes
+-- the step reads the digits of four bytes, and the word that it reads has the digits of what it gives
 abbrev pub StepBack : Type 0
 StepBack = (bytes : List ℕ) → length bytes ≡ WRITTEN → AreBytes bytes → stepOf (numberOf (digitsOf bytes)) ≡ Four (numberOf bytes)
+
+abbrev pub StepWordBack : Type 0
+StepWordBack = (word n : ℕ) → stepOf word ≡ Four n → numberOf (digitsOf (numberBytes WRITTEN n)) ≡ word
 
 -- of one byte or more
 abbrev pub NumberBack : Type 0

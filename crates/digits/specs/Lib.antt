@@ -1,4 +1,4 @@
--- Lowercase hexadecimal digits and the bytes that they write, slices of them, and numbers of a few bytes, the high byte first.
+-- Lowercase hexadecimal digits and the bytes that they write, slices and words of them, and numbers of a few bytes, the high byte first.
 pub mod Digits
 pub mod Slices
 pub mod Numbers

@@ -1,4 +1,5 @@
-// Lowercase hexadecimal digits, two to a byte, and numbers of a few bytes, the high byte first.
+// Lowercase hexadecimal digits, two to a byte, eight to a word, and numbers of a few bytes, the high
+// byte first.
 
 mod digit;
 mod load;

@@ -17,10 +17,8 @@ pub fn four(a: u8, b: u8, c: u8, d: u8) -> u32
     (two(a, b) as u32) << 16 | two(c, d) as u32
 }
 
-// `bytes` follows from `number`, and serves a caller who goes by the bytes.
 pub fn eight(a: u8, b: u8, c: u8, d: u8, e: u8, f: u8, g: u8, h: u8) -> u64
-    ensures number { λ r. ⌜ r ≡ numberOf (a ∷ b ∷ c ∷ d ∷ e ∷ f ∷ g ∷ h ∷ []) ⌝ }
-    ensures bytes { λ r. ⌜ numberBytes 8 r ≡ (a ∷ b ∷ c ∷ d ∷ e ∷ f ∷ g ∷ h ∷ []) ⌝ }
+    ensures { λ r. ⌜ r ≡ numberOf (a ∷ b ∷ c ∷ d ∷ e ∷ f ∷ g ∷ h ∷ []) ⌝ }
 {
     (four(a, b, c, d) as u64) << 32 | four(e, f, g, h) as u64
 }

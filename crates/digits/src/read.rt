@@ -17,10 +17,10 @@ ghost use Rattle.digits.specs.Slices.{readable, bytesAfter};
 ghost use Rattle.digits.specs.Word.{CHARACTERS, WRITTEN};
 ghost use Rattle.digits.specs.bounds.Part.{ReadTo};
 
-// How many digits a word has, and how many bytes they write.
-const DIGITS: usize = 8;
+// How many characters a word has, and how many bytes they write.
+const CHARACTERS: usize = 8;
 
-const BYTES: usize = DIGITS / 2;
+const WRITTEN: usize = CHARACTERS / 2;
 
 // Whether the characters of so many words are digits. No turn ends the loop, so that the compiler
 // takes words together.
@@ -31,7 +31,7 @@ fn are_words(digits: &[u8], words: usize) -> bool
     let mut good = true;
     let mut k = 0;
     while k < words {
-        good = good & are_eight(word_at(digits, DIGITS * k));
+        good = good & are_eight(word_at(digits, CHARACTERS * k));
         k += 1;
     }
     good
@@ -57,7 +57,7 @@ fn put_words(digits: &[u8], bytes: &mut [u8], words: usize)
 {
     let mut k = 0;
     while k < words {
-        let at = BYTES * k;
+        let at = WRITTEN * k;
         let four = bytes4(four_in(word_at(digits, 2 * at)));
         bytes[at] = four[0];
         bytes[at + 1] = four[1];
@@ -90,13 +90,13 @@ pub fn read_digits(digits: &[u8], bytes: &mut [u8]) -> bool
     if (digits.len() % 2 != 0) | (digits.len() / 2 != bytes.len()) {
         return false;
     }
-    let words = bytes.len() / BYTES;
-    let tail = DIGITS * words;
+    let words = bytes.len() / WRITTEN;
+    let tail = CHARACTERS * words;
     let end = 2 * bytes.len();
     if !(are_words(digits, words) & are_digits(&digits[tail..end])) {
         return false;
     }
     put_words(digits, bytes, words);
-    put_rest(digits, bytes, BYTES * words);
+    put_rest(digits, bytes, WRITTEN * words);
     true
 }

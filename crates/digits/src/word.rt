@@ -1,5 +1,5 @@
 // A word of eight characters, the first highest, read at once: document 02, request Four. Whatever the
-// word, nothing here carries or borrows from one character into the next.
+// word, nothing here carries from one character into another.
 
 use rows::refusal::DIGIT;
 ghost use mathlib.Core.Path.{_≡_};
@@ -37,10 +37,10 @@ fn values(word: u64) -> u64
     (word & 0x0f0f_0f0f_0f0f_0f0f) + 9 * letters(word)
 }
 
-// The step's test: whether all eight are digits. A character is one exactly where its upper half, a
-// 6 with bit 6 set taken for a 4, is that of its value with 0x36 added, which is 3 up to the value 9
-// and 4 from 10 on, and its value is below 16: so with bit 6 clear 3 above and 0 to 9 below, and with
-// it set 6 above and 1 to 6 below.
+// The step's test: whether all eight are digits. A character is one exactly where its upper half, with
+// bit 5 turned over where bit 6 is set, so that a 6 becomes a 4, is that of its value with 0x36 added,
+// which is 3 up to the value 9 and 4 from 10 on, and its value is below 16: so with bit 6 clear 3 above
+// and 0 to 9 below, and with it set 6 above and 1 to 6 below.
 pub fn are_eight(word: u64) -> bool
     ensures { λ r. ⌜ r ≡ areDigits (charactersIn word) ⌝ }
 {

@@ -1,5 +1,5 @@
 -- Neighbouring lanes joined: `(x | x >> c) & mask` of a row of lanes of c + c bits, each filled only to c bits, with the low half of every
--- second lane kept. AllOf pair of lanes h and l becomes one lane of twice the width that holds h · 2^c + l. One law for every c.
+-- second lane kept. Each pair of lanes h and l becomes one lane of twice the width that holds h · 2^c + l. One law for every c.
 -- Assumes nothing.
 use mathlib.Core.Path.{_≡_, refl, sym, ap, ap₂, _∙_}
 use mathlib.Core.List.{List, [], _∷_}
@@ -67,7 +67,7 @@ module _ (c x h l : ℕ) (H : h < 2 ^ c) (L : l < 2 ^ c) where
   shifted-low : more / 2 ^ c % 2 ^ (c + c) ≡ h * 2 ^ c
   shifted-low = ap (λ (n : ℕ). n % 2 ^ (c + c)) shifted ∙ digits-mod (x * 2 ^ c) (shl-lt c c H)
 
-  pub join-two : (y : ℕ) → bitAnd (bitOr more (more / 2 ^ c)) (y * 2 ^ (c + c + (c + c)) + (2 ^ (c + c) - 1)) ≡ bitAnd (bitOr x (x / 2 ^ c)) y * 2 ^ (c + c + (c + c)) + (h * 2 ^ c + l)
+  join-two : (y : ℕ) → bitAnd (bitOr more (more / 2 ^ c)) (y * 2 ^ (c + c + (c + c)) + (2 ^ (c + c) - 1)) ≡ bitAnd (bitOr x (x / 2 ^ c)) y * 2 ^ (c + c + (c + c)) + (h * 2 ^ c + l)
   join-two y =
       low-kept (c + c) (bitOr more (more / 2 ^ c)) y
       ∙ ap₂ (λ (p q : ℕ). bitAnd p y * 2 ^ (c + c + (c + c)) + q)

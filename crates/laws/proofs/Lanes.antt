@@ -1,5 +1,5 @@
--- A word as a row of lanes of k bits, the first highest: lane by lane, bit operations, sums and multiples of rows are rows of their lanes'
--- results. A row's number is gathered from the first lane on, after what stands above it, so that each law is one step and an induction.
+-- A word as a row of lanes of k bits, the first highest: lane by lane, bit operations, sums and multiples of rows, and bit 6 of each byte, are rows
+-- of their lanes' results. A row's number is gathered from the first lane on, after what stands above it, so that each law is one step and an induction.
 -- Assumes nothing.
 use mathlib.Core.Path.{_≡_, refl, sym, ap, _∙_}
 use mathlib.Core.List.{List, [], _∷_}

@@ -2,7 +2,7 @@
 -- for every c; and lanes taken two by two as lanes of twice the width. Assumes nothing.
 use mathlib.Core.Path.{_≡_, refl, sym, ap, ap₂, _∙_}
 use mathlib.Core.List.{List, [], _∷_}
-use Prim.Native.Nat.{ℕ, _+_, _-_, _*_, _/_, _%_, _^_, _<_}
+use Prim.Native.Nat.{ℕ, _+_, _-_, _*_, _/_, _^_, _<_}
 use native.Mathlib.Nat.{add-mul, add-assoc, mul-assoc, mul-right-comm, lt-of-lt-of-le, le-add-right}
 use lib.Arith.{digits-div, digits-mod}
 use lib.Bits.{bitAnd, bitOr, or-block, or-shifted}
@@ -57,7 +57,7 @@ module _ (c x h l : ℕ) (H : h < 2 ^ c) (L : l < 2 ^ c) (y : ℕ) where
       (sym (shr-shr (x * 2 ^ c + h) c c) ∙ ap (λ (n : ℕ). n / 2 ^ c) (digits-div x H))
       (digits-mod x H)
 
-  pub exchange-two : exchange c mask more ≡ (exchange c y x * 2 ^ c + l) * 2 ^ c + h
+  exchange-two : exchange c mask more ≡ (exchange c y x * 2 ^ c + l) * 2 ^ c + h
   exchange-two =
       ap₂ (λ (p q : ℕ). bitOr (p * 2 ^ c) q) low high
       ∙ ap (λ (n : ℕ). bitOr n (bitAnd (x / 2 ^ c) y * 2 ^ (c + c) + h))

@@ -41,7 +41,7 @@ read-word-requires c κs = search needs
 returns : tie.Need-returns
 returns c =
     let start = c .before .before .before .before .before .before .before .before .before .before .before in
-    c .read-word .ensures ∙ ap stepOf (c .before .eight .ensures .0 ∙ ap numberOf (sym (tabulated 8 (now (start .args .row)) (start .pre))))
+    c .read-word .ensures ∙ ap stepOf (c .before .eight .ensures ∙ ap numberOf (sym (tabulated 8 (now (start .args .row)) (start .pre))))
 
 pub answer-spec : {M : Type 1} → statement M
 answer-spec =

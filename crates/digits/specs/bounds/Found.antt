@@ -17,6 +17,8 @@ LETTER = 9
 abbrev pub valueIn : ℕ → ℕ
 valueIn c = c % 16 + LETTER * letterIn c
 
+-- ---- what only the proof of the test needs
+
 -- the bit in which a letter's upper half, 6, differs from 4
 abbrev pub SIX-FOUR : ℕ
 SIX-FOUR = 32
@@ -32,6 +34,8 @@ UPPER = 0xf0
 -- what is wrong with a character: 0 exactly where it is a digit
 abbrev pub wrongIn : ℕ → ℕ
 wrongIn c = bitAnd (bitOr (bitXor (bitXor c (SIX-FOUR * letterIn c)) (valueIn c + ADDED)) (valueIn c)) UPPER
+
+-- ---- of a whole word
 
 -- the word that has f of each character in its place
 abbrev pub eachIn : (ℕ → ℕ) → ℕ → ℕ

@@ -134,7 +134,8 @@ A list, `stdin`, goes in, and `stdout` beside it must come out. A list that a cr
 with that crate and nowhere else; here are those that none runs. `cargo run --release --offline
 --bin cases` in `peer` writes all of them, and this file; each output is worked out by hand beside
 its list in `src/bin/cases` and held against both modes of the peer, but for the rows of
-`standard` for which no short sum does: those are the peer's exact integers alone. With
+`standard` for which no short sum does, which are the peer's exact integers alone, and for those
+of `word` after the first fourteen, which are what their characters stand for, one by one. With
 `-- --check` it compares the files instead of writing them.
 
 ## For the programs

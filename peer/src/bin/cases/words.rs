@@ -9,7 +9,7 @@ const APART: [(&str, u64, Option<u32>); 14] = [
     ("ffffffff, the greatest", 0x6666_6666_6666_6666, Some(0xffff_ffff)),
     ("90a0f090: digits and letters in turn", 0x3930_6130_6630_3930, Some(0x90a0_f090)),
     ("0a9f0a9f: all four ends", 0x3061_3966_3061_3966, Some(0x0a9f_0a9f)),
-    ("no character at all", 0, None),
+    ("eight times 00", 0, None),
     ("eight times ff", u64::MAX, None),
     ("eight times 80", 0x8080_8080_8080_8080, None),
     ("eight times /", 0x2f2f_2f2f_2f2f_2f2f, None),

@@ -1,4 +1,4 @@
--- `turned` meets its contract: no bit is lost, and the rows of a word change places. Assumes nothing.
+-- `turned` meets its contract: no bit is lost, and the lanes of a word change places. Assumes nothing.
 use Rattle.digits.proofs.LoadLaws.{turned-law}
 use Rattle.digits.proofs.load.turned.Statement.{statement}
 use Rattle.digits.proofs.load.turned.Tie as tie

@@ -1,5 +1,5 @@
--- `are_eight` meets its contract, by the rows of a word. Assumes nothing.
-use mathlib.Core.Path.{_≡_, ap₂, _∙_}
+-- `are_eight` meets its contract, by the lanes of a word. Assumes nothing.
+use mathlib.Core.Path.{ap₂, _∙_}
 use native.Mathlib.Omega.{arith}
 use Prim.Native.Nat.{ℕ}
 use lib.Dec.{eqb}

@@ -1,4 +1,4 @@
--- `letters` meets its contract, by the rows of a word. Assumes nothing.
+-- `letters` meets its contract, by the lanes of a word. Assumes nothing.
 use Rattle.digits.proofs.WordLaws.{letters-is}
 use Rattle.digits.proofs.word.letters.Statement.{statement}
 use Rattle.digits.proofs.word.letters.Tie as tie

@@ -1,4 +1,4 @@
--- `values` meets its contract, by the rows of a word; no sum or multiple wraps, since each lane is small. Assumes nothing.
+-- `values` meets its contract, by the lanes of a word; no sum or multiple wraps, since each lane is small. Assumes nothing.
 use mathlib.Core.Path.{ap, _∙_}
 use native.Mathlib.Omega.{arith}
 use Prim.Native.Nat.{ℕ, _+_, _*_}

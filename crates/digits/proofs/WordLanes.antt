@@ -1,5 +1,6 @@
--- The characters of a word as a row of lanes of eight bits: the word is their number, and so is what is found in each of them. Assumes nothing.
-use mathlib.Core.Path.{_≡_, refl, sym, ap, _∙_}
+-- The characters of a word as a row of lanes of eight bits: the word is their number, and so is what is found in each of them; and the masks of the
+-- code. Assumes nothing.
+use mathlib.Core.Path.{_≡_, sym, ap, _∙_}
 use mathlib.Core.List.{List, [], _∷_, map, map-id}
 use Prim.Native.Nat.{ℕ, _+_, _*_, _^_, _<_}
 use native.Mathlib.Nat.{add-mul, add-assoc, mul-assoc, mul-comm, pow-suc}
