@@ -8,6 +8,7 @@ use borrow.Author.Tests.{lt-ltb, le-ltb, le-leb, lt-leb, leb-true, ltb-true, ltb
 use lib.Dec.{leb, ltb}
 use Rattle.laws.proofs.Bools.{and-both, or-either, either}
 use Rattle.digits.specs.Digits.{ZERO, NINE, LETTER-A, LETTER-F, isDigit, byteOf, byteIn, digitValue, digitOf}
+use Rattle.digits.specs.Numbers.{BYTE}
 use Rattle.digits.specs.declared.digit.Hex.the-variants.{Value, Bad}
 
 -- ---- two characters
@@ -29,6 +30,9 @@ in-range c e =
     ⊎-elim (λ p. let q = and-both (leb ZERO c) (leb c NINE) p in inl (leb-true ZERO c (q .0), leb-true c NINE (q .1)))
     (λ p. let q = and-both (leb LETTER-A c) (leb c LETTER-F) p in inr (leb-true LETTER-A c (q .0), leb-true c LETTER-F (q .1)))
     (or-either (leb ZERO c && leb c NINE) (leb LETTER-A c && leb c LETTER-F) e)
+
+pub digit-lt : (c : ℕ) → isDigit c ≡ true → c < BYTE
+digit-lt c e = ⊎-elim (λ (p : (ZERO ≤ c) × (c ≤ NINE)). omega arith) (λ (p : (LETTER-A ≤ c) × (c ≤ LETTER-F)). omega arith) (in-range c e)
 
 pub low-value : (c : ℕ) → c ≤ NINE → digitValue c ≡ c - ZERO
 unfolding digitValue

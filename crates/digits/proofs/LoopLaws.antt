@@ -1,37 +1,27 @@
 -- What the loops over digits and bytes leave, turn by turn. Assumes nothing.
-use Prim.Native.Nat.{ℕ, zero, suc, _+_, _*_, _<_, _≤_}
+use Prim.Native.Nat.{ℕ, zero, suc, _+_, _-_, _*_, _<_, _≤_}
 use mathlib.Core.Path.{_≡_, refl, sym, ap, ap₂, _∙_}
 use mathlib.Core.Bool.{true, _&&_, and-true, and-assoc}
 use mathlib.Core.List.{List, [], _∷_, _++_, append-assoc}
+use mathlib.Core.Logic.{⊎-elim}
 use native.Mathlib.Nat.{add-zero}
 use native.Mathlib.Numerals.{add-one}
 use native.Mathlib.Omega.{arith}
-use lib.Dec.{lit<}
-use lib.ListN.{length, getD, set, take, drop, length-set, length-append, length-drop, take-append-drop}
-use lib.Seq.{take-suc, take-add, drop-cons, append-snoc, set-at, length-take-le, ext-getD, getD-take, getD-drop, getD-set-same, getD-set-other}
+use lib.Dec.{lit<, ltb}
+use lib.ListN.{length, getD, set, take, drop, length-set, length-append, take-append-drop, List·getD-append}
+use lib.Seq.{take-suc, take-add, drop-cons, append-snoc, set-at, length-take-le, ext-getD, getD-take, getD-append-add, getD-set-same, getD-set-other}
 use borrow.Author.Count.{below-more}
-use Rattle.laws.proofs.Bools.{and-both}
-use Rattle.laws.proofs.Gathered.{joined, with-the-next, each}
+use borrow.Author.Tests.{ltb-true, ltb-false}
+use Rattle.laws.proofs.Bools.{and-both, either}
+use Rattle.laws.proofs.Gathered.{joined}
 use Rattle.digits.specs.Digits.{isDigit, digitValue, byteOf, highDigit, lowDigit, areDigits, bytesOf, digitsOf}
-use Rattle.digits.specs.Numbers.{numberOf, numberBytes}
 use Rattle.digits.specs.bounds.Part.{pairAt, ReadTo}
-use Rattle.digits.proofs.ByteLaws.{length-bytesOf, length-digitsOf, digitsOf-append, bytesOf-are}
-use Rattle.digits.proofs.NumberLaws.{bytes-back-at}
+use Rattle.digits.proofs.ByteLaws.{length-bytesOf, length-digitsOf, digitsOf-append}
 
 -- ---- characters looked at in turn
 
--- the first i are digits, and the next is one
-pub are-more : (l : List ℕ) (i : ℕ) → i < length l → (areDigits (take i l) && isDigit (getD l i 0)) ≡ areDigits (take (i + 1) l)
-unfolding areDigits
-are-more = with-the-next _&&_ true (λ b. refl) and-true and-assoc isDigit areDigits refl (λ c l. refl) 0
-
--- each of them is one
-pub digit-at : (l : List ℕ) (k : ℕ) → areDigits l ≡ true → k < length l → isDigit (getD l k 0) ≡ true
-unfolding areDigits
-digit-at = each _&&_ true (λ b. refl) and-true and-assoc isDigit areDigits refl (λ c l. refl) and-both 0
-
 -- of two parts of them
-parts : (xs ys : List ℕ) → areDigits (xs ++ ys) ≡ (areDigits xs && areDigits ys)
+pub parts : (xs ys : List ℕ) → areDigits (xs ++ ys) ≡ (areDigits xs && areDigits ys)
 unfolding areDigits
 parts = joined _&&_ true (λ b. refl) and-true and-assoc isDigit areDigits refl (λ c l. refl)
 
@@ -68,19 +58,13 @@ pub bytes-are : (l bytes : List ℕ) (n : ℕ) → length l ≡ 2 * n → length
 bytes-are l bytes n e m h =
     ext-getD 0 bytes (bytesOf l) (m ∙ sym (length-bytesOf l n e)) (λ k p. h k (omega arith) ∙ sym (bytesOf-at l k (omega arith)))
 
--- the bytes of the number that 2 n digits at a place write, one by one
-pub part-bytes : (l : List ℕ) (at n : ℕ) → 2 * at + 2 * n ≤ length l → areDigits l ≡ true
-    → (j : ℕ) → j < n → getD (numberBytes n (numberOf (bytesOf (take (2 * n) (drop (2 * at) l))))) j 0 ≡ pairAt l (at + j)
-part-bytes l at n h d j p =
-    let cs = take (2 * n) (drop (2 * at) l) in
-    let long : length cs ≡ 2 * n = length-take-le (2 * n) (drop (2 * at) l) (omega (arith, length-drop (2 * at) l)) in
-    let back : numberBytes n (numberOf (bytesOf cs)) ≡ bytesOf cs =
-    bytes-back-at n (bytesOf cs) (length-bytesOf cs n long) (bytesOf-are cs (part-digits l (2 * at) (2 * n) d)) in
-    let there : (i : ℕ) → i < 2 * n → getD cs i 0 ≡ getD l (2 * at + i) 0 = λ i q. getD-take (2 * n) (drop (2 * at) l) i 0 q ∙ getD-drop (2 * at) l i 0 in
+-- the bytes that digits write, where the first 2 n of them are those at a place of a list
+pub part-bytes : (l cs : List ℕ) (at n : ℕ) → 2 * n ≤ length cs → ((i : ℕ) → i < 2 * n → getD cs i 0 ≡ getD l (2 * at + i) 0)
+    → (j : ℕ) → j < n → getD (bytesOf cs) j 0 ≡ pairAt l (at + j)
+part-bytes l cs at n h there j p =
     let first : 2 * at + 2 * j ≡ 2 * (at + j) = omega arith in
     let second : 2 * at + (2 * j + 1) ≡ 2 * (at + j) + 1 = omega arith in
-    ap (λ (bs : List ℕ). getD bs j 0) back
-    ∙ bytesOf-at cs j (omega arith)
+    bytesOf-at cs j (omega arith)
     ∙ ap₂ (λ (x y : ℕ). byteOf (digitValue x) (digitValue y)) (there (2 * j) (omega arith) ∙ ap (λ (i : ℕ). getD l i 0) first)
     (there (2 * j + 1) (omega arith) ∙ ap (λ (i : ℕ). getD l i 0) second)
 
@@ -104,6 +88,27 @@ four-more f xs four i p h e =
     let h₂ = entry-more f one (i + 1) (getD four 1 0) (simp length-set (omega arith)) h₁ (e 1 (lit< tt)) in
     let h₃ = entry-more f two (i + 2) (getD four 2 0) (simp length-set (omega arith)) (λ k q. h₂ k (omega arith)) (e 2 (lit< tt)) in
     λ k q. entry-more f three (i + 3) (getD four 3 0) (simp length-set (omega arith)) (λ k r. h₃ k (omega arith)) (e 3 (lit< tt)) k (omega arith)
+
+-- ---- entries up to a place, and others from there on
+
+module _ (xs rest : List ℕ) (from : ℕ) (p : from ≤ length xs) where
+  pub seam-before : (k : ℕ) → k < from → getD (take from xs ++ rest) k 0 ≡ getD xs k 0
+  seam-before k q = List·getD-append (take from xs) rest 0 k (omega (arith, length-take-le from xs p)) ∙ getD-take from xs k 0 q
+
+  pub seam-after : (k : ℕ) → from ≤ k → getD (take from xs ++ rest) k 0 ≡ getD rest (k - from) 0
+  seam-after k q =
+      let there : k ≡ length (take from xs) + (k - from) = omega (arith, length-take-le from xs p) in
+      ap (λ (i : ℕ). getD (take from xs ++ rest) i 0) there ∙ getD-append-add (take from xs) rest (k - from) 0
+
+  pub rest-more : (f : ℕ → ℕ) → ((k : ℕ) → k < from → getD xs k 0 ≡ f k) → ((j : ℕ) → from + j < length xs → getD rest j 0 ≡ f (from + j))
+      → (k : ℕ) → k < length xs → getD (take from xs ++ rest) k 0 ≡ f k
+  rest-more f h e k q =
+      ⊎-elim (λ t. let b = ltb-true k from t in seam-before k b ∙ h k b)
+      (λ t.
+      let b = ltb-false k from t in
+      let there : from + (k - from) ≡ k = omega arith in
+      seam-after k b ∙ e (k - from) (omega arith) ∙ ap f there)
+      (either (ltb k from))
 
 -- ---- the loop that writes the digits in turn: the first i bytes' digits stand before what the buffer held
 

@@ -14,8 +14,9 @@ use Rattle.laws.proofs.EachLaws.{all-each}
 use Rattle.laws.proofs.Joins.{paired}
 use Rattle.laws.proofs.Lanes.{lanes, AllOf, all-of, row, row-sum, row-times, row-same, row-le, row-bit6}
 use Rattle.digits.specs.Digits.{isDigit, digitValue, areDigits, bytesOf}
+use Rattle.digits.specs.Numbers.{AreBytes}
 use Rattle.digits.specs.bounds.Found.{LETTER, SIX-FOUR, ADDED, UPPER, letterIn, valueIn, wrongIn}
-use Rattle.digits.proofs.DigitLaws.{value-lt}
+use Rattle.digits.proofs.DigitLaws.{digit-lt, value-lt}
 
 -- ---- one lane
 
@@ -62,18 +63,20 @@ none-wrong (b ∷ bs) h x =
     neither zero r = ap (λ (n : ℕ). eqb n 0) (zero-add r)
     neither (suc x) r = ne-eqb (suc x * 256 + r) 0 (λ e. omega arith) ∙ sym (ap (λ (t : Bool). t && eqb r 0) (eqb·suc-zero x))
 
--- of digits, each value is below 16, and the row of values
+-- of digits, each value is below 16, and is what is computed; and that is a byte of any character
 pub values-lt : (bs : List ℕ) → areDigits bs ≡ true → AllOf (λ v. v < 16) (map digitValue bs)
 unfolding areDigits
 values-lt [] d = tt
 values-lt (b ∷ bs) d = let both = and-both (isDigit b) (areDigits bs) d in (value-lt b (both .0), values-lt bs (both .1))
 
-pub values : (bs : List ℕ) → AllOf (λ b. b < 256) bs → areDigits bs ≡ true → (x : ℕ) → lanes 8 valueIn x bs ≡ lanes 8 (λ v. v) x (map digitValue bs)
+pub values : (bs : List ℕ) → areDigits bs ≡ true → map valueIn bs ≡ map digitValue bs
 unfolding areDigits
-values [] h d x = refl
-values (b ∷ bs) h d x =
-    let both = and-both (isDigit b) (areDigits bs) d in
-    ap (λ (v : ℕ). lanes 8 valueIn (x * 256 + v) bs) (value-is b (h .0) (both .0)) ∙ values bs (h .1) (both .1) (x * 256 + digitValue b)
+values [] d = refl
+values (b ∷ bs) d = let both = and-both (isDigit b) (areDigits bs) d in ap₂ _∷_ (value-is b (digit-lt b (both .0)) (both .0)) (values bs (both .1))
+
+pub values-are : (bs : List ℕ) → AreBytes (map valueIn bs)
+values-are [] = tt
+values-are (b ∷ bs) = (omega arith, values-are bs)
 
 -- the bytes that digits write are their values joined in pairs
 pub paired-bytes : (bs : List ℕ) → paired 4 (map digitValue bs) ≡ bytesOf bs

@@ -2,7 +2,7 @@
 -- of the four bytes that they write. So the step is what it should be, and reading and writing are inverse. Assumes nothing.
 use mathlib.Core.Path.{_≡_, refl, sym, ap, ap₂, _∙_, subst}
 use mathlib.Core.Bool.{true, false}
-use mathlib.Core.List.{List, [], _∷_, map}
+use mathlib.Core.List.{List, [], _∷_, map, map-id}
 use mathlib.Core.Logic.{⊎-elim}
 use Prim.Native.Nat.{ℕ, _+_, _*_, _/_, _^_, _<_, _≤_}
 use native.Mathlib.Omega.{arith}
@@ -15,16 +15,16 @@ use Rattle.laws.proofs.Lanes.{AllOf}
 use Rattle.rows.specs.Refusal.{DIGIT}
 use Rattle.digits.specs.declared.word.WordBytes.{WordBytes}
 use Rattle.digits.specs.declared.word.WordBytes.the-variants.{Four, Refused}
-use Rattle.digits.specs.Digits.{ZERO, NINE, LETTER-A, LETTER-F, isDigit, areDigits, digitValue, bytesOf, digitsOf}
+use Rattle.digits.specs.Digits.{isDigit, areDigits, digitValue, bytesOf, digitsOf}
 use Rattle.digits.specs.Inverse.{StepBack, StepWordBack}
-use Rattle.digits.specs.Numbers.{BYTE, AreBytes, numberOf, numberBytes}
+use Rattle.digits.specs.Numbers.{AreBytes, numberOf, numberBytes}
 use Rattle.digits.specs.Word.{CHARACTERS, WRITTEN, charactersIn, stepOf}
-use Rattle.digits.specs.bounds.Found.{LETTER, SIX-FOUR, ADDED, UPPER, letterIn, valueIn, eachIn}
+use Rattle.digits.specs.bounds.Found.{LETTER, SIX-FOUR, ADDED, UPPER, letterIn, valueIn, eachIn, Joined}
 use Rattle.digits.proofs.ByteLaws.{length-bytesOf, length-digitsOf, digitsOf-are, bytesOf-are, bytes-digits, digits-bytes}
-use Rattle.digits.proofs.DigitLaws.{in-range}
+use Rattle.digits.proofs.DigitLaws.{digit-lt}
 use Rattle.digits.proofs.NumberLaws.{length-numberBytes, number-back, bytes-back-at}
-use Rattle.digits.proofs.WordLanes.{SECOND-BYTES, SECOND-PAIRS, SECOND-HALF, each-row, word-row, characters-lt}
-use Rattle.digits.proofs.WordDigits.{none-wrong, values-lt, values, letter-row, value-row, wrong-row, at-most, paired-bytes}
+use Rattle.digits.proofs.WordLanes.{SECOND-BYTES, SECOND-PAIRS, SECOND-HALF, number-row, each-row, word-row, characters-lt}
+use Rattle.digits.proofs.WordDigits.{none-wrong, values-lt, letter-row, value-row, wrong-row, at-most, paired-bytes}
 
 -- ---- what the code computes
 
@@ -86,14 +86,6 @@ module _ (w : ℕ) (h : w < 2 ^ 64) where
       ap (λ (x : ℕ). eqb x 0) (wrong-row cs (characters-lt w h) w (eachIn letterIn w) (eachIn valueIn w) (word-row w) (each-row letterIn w) (each-row valueIn w))
       ∙ none-wrong cs (characters-lt w h) 0
 
-  pub four-law : areDigits cs ≡ true → fourOf (eachIn valueIn w) ≡ numberOf (bytesOf cs)
-  unfolding charactersIn bytesOf
-  four-law d =
-      ap fourOf (each-row valueIn w ∙ values cs (characters-lt w h) d 0)
-      ∙ joins (map digitValue cs) tt tt tt (values-lt cs d)
-      ∙ ap (λ (bytes : List ℕ). number 64 0 (paired 16 (paired 8 bytes))) (paired-bytes cs)
-      ∙ omega arith
-
 -- ---- the step
 
 module _ (w : ℕ) where
@@ -115,10 +107,24 @@ characters-of = bytes-back-at CHARACTERS
 are-bytes : (cs : List ℕ) → areDigits cs ≡ true → AreBytes cs
 unfolding areDigits
 are-bytes [] d = tt
-are-bytes (c ∷ cs) d =
-    let both = and-both (isDigit c) (areDigits cs) d in
-    let small : c < BYTE = ⊎-elim (λ (p : (ZERO ≤ c) × (c ≤ NINE)). omega arith) (λ (p : (LETTER-A ≤ c) × (c ≤ LETTER-F)). omega arith) (in-range c (both .0)) in
-    (small, are-bytes cs (both .1))
+are-bytes (c ∷ cs) d = let both = and-both (isDigit c) (areDigits cs) d in (digit-lt c (both .0), are-bytes cs (both .1))
+
+-- ---- the values joined
+
+four-law : (w : ℕ) → areDigits (charactersIn w) ≡ true → fourOf (numberOf (map digitValue (charactersIn w))) ≡ numberOf (bytesOf (charactersIn w))
+unfolding charactersIn bytesOf
+four-law w d =
+    let cs = charactersIn w in
+    let vs = map digitValue cs in
+    ap fourOf (ap numberOf (sym (map-id vs)) ∙ number-row (λ v. v) vs)
+    ∙ joins vs tt tt tt (values-lt cs d)
+    ∙ ap (λ (bytes : List ℕ). number 64 0 (paired 16 (paired 8 bytes))) (paired-bytes cs)
+    ∙ omega arith
+
+pub joined-law : (v : ℕ) → Joined v (fourOf v)
+joined-law v digits l d e =
+    let cs : charactersIn (numberOf digits) ≡ digits = characters-of digits l (are-bytes digits d) in
+    ap fourOf e ∙ subst (λ (ds : List ℕ). fourOf (numberOf (map digitValue ds)) ≡ numberOf (bytesOf ds)) cs (four-law (numberOf digits) (ap areDigits cs ∙ d))
 
 pub step-back : StepBack
 step-back bytes l A =

@@ -11,7 +11,7 @@ pub enum Hex {
     Bad,
 }
 
-pub fn is_digit(c: u8) -> bool
+fn is_digit(c: u8) -> bool
     ensures { λ r. ⌜ r ≡ isDigit c ⌝ }
 {
     ((b'0' <= c) & (c <= b'9')) | ((b'a' <= c) & (c <= b'f'))
@@ -26,7 +26,7 @@ fn value_of(c: u8) -> u8
 }
 
 // The byte that two digits write.
-pub fn byte_of(high: u8, low: u8) -> u8
+fn byte_of(high: u8, low: u8) -> u8
     requires { ⌜ (isDigit high ≡ true) × (isDigit low ≡ true) ⌝ }
     ensures { λ r. ⌜ r ≡ byteOf (digitValue high) (digitValue low) ⌝ }
 {

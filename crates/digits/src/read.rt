@@ -1,25 +1,27 @@
-// Digits of a slice to bytes: eight at a time, as words, and the tail, fewer than eight, alone. Words
-// go by the two parts of the step, its test and its bytes, of which `read_word` is made: they are
-// called apart, for a refusal changes no byte, so all is tested before the first is put.
+// Digits of a slice to bytes: eight at a time, as words, and the tail, fewer than eight, as a word
+// filled up. Words go by the parts of the step, its test and its bytes, of which `read_word` is made:
+// they are called apart, for a refusal changes no byte, so all is tested before the first is put.
 
-use crate::digit::byte_of;
-use crate::digit::is_digit;
+use crate::load::CHARACTERS;
+use crate::load::tail_word;
+use crate::load::turned;
 use crate::load::word_at;
 use crate::number::bytes4;
 use crate::word::are_eight;
-use crate::word::four_in;
+use crate::word::joined;
+use crate::word::values;
 ghost use mathlib.Core.Path.{_≡_};
 ghost use mathlib.Core.Bool.{true};
-ghost use Prim.Native.Nat.{_*_, _≤_};
+ghost use mathlib.Core.List.{_++_};
+ghost use Prim.Native.Nat.{_+_, _*_, _≤_};
 ghost use lib.ListN.{length, take};
-ghost use Rattle.digits.specs.Digits.{areDigits};
+ghost use Rattle.digits.specs.Digits.{areDigits, bytesOf};
 ghost use Rattle.digits.specs.Slices.{readable, bytesAfter};
 ghost use Rattle.digits.specs.Word.{CHARACTERS, WRITTEN};
-ghost use Rattle.digits.specs.bounds.Part.{ReadTo};
+ghost use Rattle.digits.specs.bounds.Loaded.{loadedIn};
+ghost use Rattle.digits.specs.bounds.Part.{ReadTo, SameTo};
 
-// How many characters a word has, and how many bytes they write.
-const CHARACTERS: usize = 8;
-
+// How many bytes the characters of a word write.
 const WRITTEN: usize = CHARACTERS / 2;
 
 // Whether the characters of so many words are digits. No turn ends the loop, so that the compiler
@@ -37,17 +39,13 @@ fn are_words(digits: &[u8], words: usize) -> bool
     good
 }
 
-// Whether all characters are digits, one by one: for the tail.
-fn are_digits(digits: &[u8]) -> bool
-    ensures { λ r. ⌜ r ≡ areDigits (now (digits .entry)) ⌝ }
+// The bytes that a word of digits writes, as it is loaded. What they stand for is worked out before
+// the word is turned: the test has done so already, and the compiler does it once.
+fn loaded_bytes(word: u64) -> [u8; WRITTEN]
+    requires { ⌜ areDigits (loadedIn word) ≡ true ⌝ }
+    ensures { λ r. ⌜ r ≡ bytesOf (loadedIn word) ⌝ }
 {
-    let mut good = true;
-    let mut i = 0;
-    while i < digits.len() {
-        good = good & is_digit(digits[i]);
-        i += 1;
-    }
-    good
+    bytes4(joined(turned(values(word))))
 }
 
 // Puts the bytes of so many words.
@@ -58,7 +56,7 @@ fn put_words(digits: &[u8], bytes: &mut [u8], words: usize)
     let mut k = 0;
     while k < words {
         let at = WRITTEN * k;
-        let four = bytes4(four_in(word_at(digits, 2 * at)));
+        let four = loaded_bytes(word_at(digits, 2 * at));
         bytes[at] = four[0];
         bytes[at + 1] = four[1];
         bytes[at + 2] = four[2];
@@ -67,16 +65,14 @@ fn put_words(digits: &[u8], bytes: &mut [u8], words: usize)
     }
 }
 
-// Puts the bytes from one place on, where those before them stand: for the tail.
-fn put_rest(digits: &[u8], bytes: &mut [u8], from: usize)
-    requires { ⌜ (length (now digits) ≡ 2 * length (now bytes)) × (areDigits (now digits) ≡ true) ⌝ }
-    requires { ⌜ ReadTo (now digits) from (now bytes) ⌝ }
-    ensures { λ _. ⌜ ReadTo (now (digits .entry)) (length (now (bytes .entry))) (now (bytes .exit)) ⌝ }
+// Puts four bytes from a place on, as far as there is room: for the tail.
+fn put_rest(four: [u8; WRITTEN], bytes: &mut [u8], from: usize)
+    requires { ⌜ (from ≤ length (now bytes)) × (length (now bytes) ≤ from + WRITTEN) ⌝ }
+    ensures { λ _. ⌜ SameTo (length (now (bytes .entry))) (take from (now (bytes .entry)) ++ four) (now (bytes .exit)) ⌝ }
 {
     let mut i = from;
     while i < bytes.len() {
-        let at = 2 * i;
-        bytes[i] = byte_of(digits[at], digits[at + 1]);
+        bytes[i] = four[i - from];
         i += 1;
     }
 }
@@ -93,10 +89,11 @@ pub fn read_digits(digits: &[u8], bytes: &mut [u8]) -> bool
     let words = bytes.len() / WRITTEN;
     let tail = CHARACTERS * words;
     let end = 2 * bytes.len();
-    if !(are_words(digits, words) & are_digits(&digits[tail..end])) {
+    let rest = tail_word(&digits[tail..end]);
+    if !(are_words(digits, words) & are_eight(rest)) {
         return false;
     }
     put_words(digits, bytes, words);
-    put_rest(digits, bytes, WRITTEN * words);
+    put_rest(loaded_bytes(rest), bytes, WRITTEN * words);
     true
 }

@@ -3,11 +3,9 @@
 
 use rows::refusal::DIGIT;
 ghost use mathlib.Core.Path.{_≡_};
-ghost use mathlib.Core.Bool.{true};
-ghost use Rattle.digits.specs.Digits.{areDigits, bytesOf};
-ghost use Rattle.digits.specs.Numbers.{numberOf};
+ghost use Rattle.digits.specs.Digits.{areDigits};
 ghost use Rattle.digits.specs.Word.{charactersIn, stepOf};
-ghost use Rattle.digits.specs.bounds.Found.{letterIn, valueIn, eachIn};
+ghost use Rattle.digits.specs.bounds.Found.{letterIn, valueIn, eachIn, Joined};
 
 // The second of each two bytes, of each two pairs of bytes and of the two halves of a word.
 pub const SECOND_BYTES: u64 = 0x00ff_00ff_00ff_00ff;
@@ -31,7 +29,7 @@ fn letters(word: u64) -> u64
 }
 
 // What each character stands for, if it is a digit.
-fn values(word: u64) -> u64
+pub fn values(word: u64) -> u64
     ensures { λ r. ⌜ r ≡ eachIn valueIn word ⌝ }
 {
     (word & 0x0f0f_0f0f_0f0f_0f0f) + 9 * letters(word)
@@ -49,12 +47,10 @@ pub fn are_eight(word: u64) -> bool
     ((upper ^ (value + 0x3636_3636_3636_3636)) | value) & 0xf0f0_f0f0_f0f0_f0f0 == 0
 }
 
-// The step's bytes, of eight digits: their values joined two by two, three times.
-pub fn four_in(word: u64) -> u32
-    requires { ⌜ areDigits (charactersIn word) ≡ true ⌝ }
-    ensures { λ r. ⌜ r ≡ numberOf (bytesOf (charactersIn word)) ⌝ }
+// The step's bytes, by what eight digits stand for: joined two by two, three times.
+pub fn joined(value: u64) -> u32
+    ensures { λ r. ⌜ Joined value r ⌝ }
 {
-    let value = values(word);
     let bytes = (value | (value >> 4)) & SECOND_BYTES;
     let pairs = (bytes | (bytes >> 8)) & SECOND_PAIRS;
     ((pairs | (pairs >> 16)) & SECOND_HALF) as u32
@@ -65,7 +61,7 @@ pub fn read_word(word: u64) -> WordBytes
     ensures { λ r. ⌜ r ≡ stepOf word ⌝ }
 {
     if are_eight(word) {
-        return WordBytes::Four(four_in(word));
+        return WordBytes::Four(joined(values(word)));
     }
     WordBytes::Refused(DIGIT)
 }

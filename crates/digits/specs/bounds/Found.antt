@@ -1,9 +1,13 @@
 -- What the step finds in each character of a word, all at once: private functions say by it what they make of a word.
 use Prim.Native.Nat.{ℕ, _+_, _*_, _/_, _%_}
-use mathlib.Core.List.{map}
+use mathlib.Core.Path.{_≡_}
+use mathlib.Core.Bool.{true}
+use mathlib.Core.List.{List, map}
 use lib.Bits.{bitAnd, bitOr, bitXor}
+use lib.ListN.{length}
+use Rattle.digits.specs.Digits.{areDigits, digitValue, bytesOf}
 use Rattle.digits.specs.Numbers.{numberOf}
-use Rattle.digits.specs.Word.{charactersIn}
+use Rattle.digits.specs.Word.{CHARACTERS, charactersIn}
 
 -- bit 6 of a character: set in a letter, clear in the digits from 0 to 9
 abbrev pub letterIn : ℕ → ℕ
@@ -40,3 +44,8 @@ wrongIn c = bitAnd (bitOr (bitXor (bitXor c (SIX-FOUR * letterIn c)) (valueIn c 
 -- the word that has f of each character in its place
 abbrev pub eachIn : (ℕ → ℕ) → ℕ → ℕ
 eachIn f word = numberOf (map f (charactersIn word))
+
+-- n is the number of the bytes that eight digits write, of those that have these values
+abbrev pub Joined : ℕ → ℕ → Type 0
+Joined values n =
+    (digits : List ℕ) → length digits ≡ CHARACTERS → areDigits digits ≡ true → values ≡ numberOf (map digitValue digits) → n ≡ numberOf (bytesOf digits)

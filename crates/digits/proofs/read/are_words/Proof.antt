@@ -7,6 +7,7 @@ use Prim.Native.Nat.{ℕ, _+_, _-_, _*_, _≤_}
 use denote.Ref.{now}
 use lib.ListN.{take}
 use Rattle.digits.specs.Digits.{areDigits}
+use Rattle.digits.proofs.LoadLaws.{loaded-digits}
 use Rattle.digits.proofs.LoopLaws.{part-more}
 use Rattle.digits.proofs.read.are_words.Statement.{statement}
 use Rattle.digits.proofs.read.are_words.Tie as tie
@@ -42,7 +43,7 @@ loop-again c =
     let l = now (c .before .before .before .before .before .args .digits) in
     let next : 8 * at .k + 8 ≡ 8 * (at .k + 1) = omega arith in (
       omega arith,
-      ap₂ (λ (a b : Bool). a && b) (at .inv .1) (c .are-eight .ensures ∙ ap areDigits (c .before .word-at .ensures))
+      ap₂ (λ (a b : Bool). a && b) (at .inv .1) (c .are-eight .ensures ∙ loaded-digits (c .before .word-at .result) ∙ ap areDigits (c .before .word-at .ensures))
           ∙ part-more l (8 * at .k) 8
           ∙ ap (λ (n : ℕ). areDigits (take n l)) next,
     )

@@ -1,40 +1,31 @@
--- `put_rest` meets its contract. The loop's invariant: the bytes below i stand at their places. Assumes nothing.
+-- `put_rest` meets its contract. The loop's invariant: below i stands what shall stand there in the end. Assumes nothing.
 use native.Mathlib.Omega.{arith}
-use mathlib.Core.Path.{_≡_, refl}
-use Prim.Native.Nat.{_-_, _*_, _+_}
+use mathlib.Core.Path.{_≡_, refl, sym, ap, _∙_}
+use mathlib.Core.List.{List, _++_}
+use Prim.Native.Nat.{ℕ, _-_, _+_, _<_, _≤_}
 use denote.Ref.{now}
-use lib.ListN.{length, length-set}
-use Rattle.digits.specs.bounds.Part.{pairAt, ReadTo}
-use Rattle.digits.proofs.LoopLaws.{digit-at, entry-more}
+use lib.ListN.{length, getD, take, length-set}
+use Rattle.digits.specs.bounds.Part.{SameTo}
+use Rattle.digits.proofs.LoopLaws.{entry-more, seam-before, seam-after}
 use Rattle.digits.proofs.read.put_rest.Statement.{statement}
 use Rattle.digits.proofs.read.put_rest.Tie as tie
 
 abbrev Inv-loop : tie.InvT-loop
-Inv-loop digits bytes₀ from i₀ bytes i = (length bytes ≡ length bytes₀) × ReadTo digits i bytes
+Inv-loop bytes₀ from four i₀ bytes i = (from ≤ i) × (i ≤ length bytes₀) × (length bytes ≡ length bytes₀) × SameTo i (take from bytes₀ ++ four) bytes
 
 abbrev μ-loop : tie.MeasureT-loop
-μ-loop digits bytes₀ from i₀ bytes i = length bytes₀ - i
+μ-loop bytes₀ from four i₀ bytes i = length bytes₀ - i
 
 loop-holds : tie.Need-loop-holds Inv-loop μ-loop
-loop-holds c = (refl, c .before .before .pre .1)
+loop-holds c =
+    let bytes = now (c .args .bytes) in
+    (omega arith, c .pre .0, refl, λ k p. sym (seam-before bytes (c .args .t1) (c .args .from) (c .pre .0) k p))
 
-mul-at : tie.Need-mul-at Inv-loop μ-loop
-mul-at c = omega arith
+sub-bytes : tie.Need-sub-bytes Inv-loop μ-loop
+sub-bytes c = omega arith
 
-shared-slice-read-byte-of : tie.Need-shared-slice-read-byte-of Inv-loop μ-loop
-shared-slice-read-byte-of c = omega arith
-
-add-byte-of : tie.Need-add-byte-of Inv-loop μ-loop
-add-byte-of c = omega arith
-
-shared-slice-read-byte-of-2 : tie.Need-shared-slice-read-byte-of-2 Inv-loop μ-loop
-shared-slice-read-byte-of-2 c = omega arith
-
-byte-of-requires : tie.Need-byte-of-requires Inv-loop μ-loop
-byte-of-requires c κs =
-    let good = c .before .before .before .before .before .before .pre .0 .1 in
-    let i = c .before .before .before .loop .i in
-    (digit-at _ (2 * i) good (omega arith), digit-at _ (2 * i + 1) good (omega arith))
+array-read-bytes : tie.Need-array-read-bytes Inv-loop μ-loop
+array-read-bytes c = omega (arith, c .before .before .pre)
 
 slice-write-bytes : tie.Need-slice-write-bytes Inv-loop μ-loop
 slice-write-bytes c = omega arith
@@ -47,15 +38,23 @@ loop-less c = omega arith
 
 loop-again : tie.Need-loop-again Inv-loop μ-loop
 loop-again c =
-    let at = c .before .before .before .before .loop in
-    let digits = now (c .before .before .before .before .before .before .before .args .digits) in
-    (simp length-set (at .inv .0), entry-more (pairAt digits) (at .bytes) (at .i) _ (omega arith) (at .inv .1) (c .byte-of .ensures))
+    let at = c .before .loop in
+    let start = c .before .before in
+    let bytes = now (start .args .bytes) in
+    let four = start .args .t1 in
+    let from = start .args .from in (
+      omega arith,
+      omega arith,
+      simp length-set (at .inv .2),
+      entry-more (λ (k : ℕ). getD (take from bytes ++ four) k 0) (at .bytes) (at .i) (getD four (at .i - from) 0) (omega arith) (at .inv .3)
+          (sym (seam-after bytes four from (start .pre .0) (at .i) (at .inv .0))),
+    )
 
 same-length : tie.Need-same-length Inv-loop μ-loop
 same-length c = omega arith
 
 returns : tie.Need-returns Inv-loop μ-loop
-returns c = λ k p. c .before .loop .inv .1 k (omega arith)
+returns c = λ k p. c .before .loop .inv .3 k (omega arith)
 
 pub put-rest-spec : {M : Type 1} → statement M
 put-rest-spec =
@@ -64,11 +63,8 @@ put-rest-spec =
     Inv-loop
     μ-loop
     loop-holds
-    mul-at
-    shared-slice-read-byte-of
-    add-byte-of
-    shared-slice-read-byte-of-2
-    byte-of-requires
+    sub-bytes
+    array-read-bytes
     slice-write-bytes
     add-i
     loop-less

@@ -5,9 +5,9 @@ use mathlib.Core.Path.{_≡_, refl, ap, _∙_}
 use mathlib.Core.List.{List}
 use Prim.Native.Nat.{ℕ, _+_, _-_, _*_, _<_, _≤_}
 use denote.Ref.{now}
-use lib.ListN.{length, getD, length-set, take, drop}
+use lib.ListN.{length, getD, length-set, length-drop, take, drop}
+use lib.Seq.{length-take-le, getD-take, getD-drop}
 use Rattle.digits.specs.Digits.{areDigits, bytesOf}
-use Rattle.digits.specs.Numbers.{numberOf, numberBytes}
 use Rattle.digits.specs.bounds.Part.{pairAt, ReadTo}
 use Rattle.digits.proofs.LoopLaws.{part-digits, part-bytes, four-more}
 use Rattle.digits.proofs.read.put_words.Statement.{statement}
@@ -31,13 +31,10 @@ mul-word-at c = omega arith
 word-at-requires : tie.Need-word-at-requires Inv-loop μ-loop
 word-at-requires c κs = omega arith
 
-four-in-requires : tie.Need-four-in-requires Inv-loop μ-loop
-four-in-requires c κs =
+loaded-bytes-requires : tie.Need-loaded-bytes-requires Inv-loop μ-loop
+loaded-bytes-requires c κs =
     let start = c .before .before .before .before .before in
     ap areDigits (c .word-at .ensures) ∙ part-digits (now (start .args .digits)) (2 * (4 * c .before .before .loop .k)) 8 (start .pre .2)
-
-bytes4-requires : tie.Need-bytes4-requires Inv-loop μ-loop
-bytes4-requires c κs = search needs
 
 array-read-bytes : tie.Need-array-read-bytes Inv-loop μ-loop
 array-read-bytes c = search needs
@@ -80,16 +77,19 @@ loop-less c = omega arith
 
 loop-again : tie.Need-loop-again Inv-loop μ-loop
 loop-again c =
-    let at = c .before .before .before .before .loop in
-    let start = c .before .before .before .before .before .before .before in
+    let at = c .before .before .before .loop in
+    let start = c .before .before .before .before .before .before in
     let l = now (start .args .digits) in
-    let four : c .bytes4 .result ≡ numberBytes 4 (numberOf (bytesOf (take 8 (drop (2 * (4 * at .k)) l)))) =
-    c .bytes4 .ensures ∙ ap (numberBytes 4) (c .before .four-in .ensures ∙ ap (λ (cs : List ℕ). numberOf (bytesOf cs)) (c .before .before .word-at .ensures)) in
-    let each : (j : ℕ) → j < 4 → getD (c .bytes4 .result) j 0 ≡ pairAt l (4 * at .k + j) =
-    λ j p. ap (λ (bs : List ℕ). getD bs j 0) four ∙ part-bytes l (4 * at .k) 4 (omega arith) (start .pre .2) j p in (
+    let place = 2 * (4 * at .k) in
+    let cs = take 8 (drop place l) in
+    let long : length cs ≡ 8 = length-take-le 8 (drop place l) (omega (arith, length-drop place l)) in
+    let four : c .loaded-bytes .result ≡ bytesOf cs = c .loaded-bytes .ensures ∙ ap bytesOf (c .before .word-at .ensures) in
+    let each : (j : ℕ) → j < 4 → getD (c .loaded-bytes .result) j 0 ≡ pairAt l (4 * at .k + j) =
+    λ j p. ap (λ (bs : List ℕ). getD bs j 0) four
+    ∙ part-bytes l cs (4 * at .k) 4 (omega arith) (λ i q. getD-take 8 (drop place l) i 0 q ∙ getD-drop place l i 0) j p in (
       omega arith,
       simp length-set (at .inv .1),
-      λ k p. four-more (pairAt l) (at .bytes) (c .bytes4 .result) (4 * at .k) (omega arith) (at .inv .2) each k (omega arith),
+      λ k p. four-more (pairAt l) (at .bytes) (c .loaded-bytes .result) (4 * at .k) (omega arith) (at .inv .2) each k (omega arith),
     )
 
 same-length : tie.Need-same-length Inv-loop μ-loop
@@ -108,8 +108,7 @@ put-words-spec =
     mul-at
     mul-word-at
     word-at-requires
-    four-in-requires
-    bytes4-requires
+    loaded-bytes-requires
     array-read-bytes
     slice-write-bytes
     array-read-bytes-2

@@ -1,7 +1,13 @@
 -- `read_word` meets its contract: each return is a case of `stepOf`. Assumes nothing.
-use mathlib.Core.Path.{sym, ap, _∙_}
+use mathlib.Core.Path.{_≡_, sym, ap, _∙_}
+use mathlib.Core.Bool.{true}
 use borrow.Author.Needs.{needs}
+use Rattle.digits.specs.Digits.{areDigits}
+use Rattle.digits.specs.Numbers.{numberOf}
+use Rattle.digits.specs.Word.{CHARACTERS, charactersIn}
 use Rattle.digits.specs.declared.word.WordBytes.the-variants.{Four}
+use Rattle.digits.proofs.NumberLaws.{length-numberBytes}
+use Rattle.digits.proofs.WordDigits.{values}
 use Rattle.digits.proofs.WordLaws.{step-bytes, step-refused}
 use Rattle.digits.proofs.word.read_word.Statement.{statement}
 use Rattle.digits.proofs.word.read_word.Tie as tie
@@ -9,16 +15,23 @@ use Rattle.digits.proofs.word.read_word.Tie as tie
 are-eight-requires : tie.Need-are-eight-requires
 are-eight-requires c κs = search needs
 
-four-in-requires : tie.Need-four-in-requires
-four-in-requires c κs = sym (c .before .are-eight .ensures) ∙ c .if1 .taken
+values-requires : tie.Need-values-requires
+values-requires c κs = search needs
+
+joined-requires : tie.Need-joined-requires
+joined-requires c κs = search needs
 
 returns : tie.Need-returns
+unfolding charactersIn
 returns c =
-    let call = c .before .before in
-    ap Four (c .four-in .ensures) ∙ step-bytes (call .before .args .word) (sym (call .are-eight .ensures) ∙ c .before .if1 .taken)
+    let call = c .before .before .before in
+    let word = call .before .args .word in
+    let d : areDigits (charactersIn word) ≡ true = sym (call .are-eight .ensures) ∙ c .before .before .if1 .taken in
+    ap Four (c .joined .ensures (charactersIn word) (length-numberBytes CHARACTERS word) d (c .before .values .ensures ∙ ap numberOf (values (charactersIn word) d)))
+    ∙ step-bytes word d
 
 returns-2 : tie.Need-returns-2
 returns-2 c = step-refused (c .before .before .args .word) (sym (c .before .are-eight .ensures) ∙ c .if1 .left)
 
 pub read-word-spec : {M : Type 1} → statement M
-read-word-spec = tie.close (tie.spec are-eight-requires four-in-requires returns returns-2)
+read-word-spec = tie.close (tie.spec are-eight-requires values-requires joined-requires returns returns-2)
