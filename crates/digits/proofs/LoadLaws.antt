@@ -1,26 +1,22 @@
--- A word with its characters in the other order; a word as it is loaded; the characters that stand at a place of a list, and a tail filled up.
--- Assumes nothing.
+-- A word with its characters in the other order, a word as it is loaded, and the characters that stand at a place of a list. Assumes nothing.
 use mathlib.Core.Path.{_≡_, refl, sym, ap, _∙_}
 use mathlib.Core.Bool.{Bool, true, _&&_, and-true, and-assoc, and-comm}
-use mathlib.Core.List.{List, [], _∷_, _++_, map, map-id, reverse, reverseAux}
-use Prim.Native.Nat.{ℕ, zero, suc, _+_, _-_, _*_, _/_, _%_, _^_, _<_, _≤_}
+use mathlib.Core.List.{List, [], _∷_, map, map-id, reverse, reverseAux}
+use Prim.Native.Nat.{ℕ, zero, suc, _+_, _*_, _/_, _%_, _^_, _<_, _≤_}
 use native.Mathlib.Nat.{add-zero, add-suc, le-refl, lt-of-le-of-lt}
-use native.Mathlib.Numerals.{add-one}
 use native.Mathlib.Omega.{arith}
 use lib.Bits.{bitAnd, bitOr, and-le-r}
 use lib.Dec.{lit<}
-use lib.ListN.{length, take, drop, getD, set, replicate, length-append, length-drop, List·getD-append}
+use lib.ListN.{length, take, drop, getD}
 use lib.Pow.{shl-exact}
-use lib.Seq.{take-suc, drop-cons, append-snoc, set-at, length-take-le, getD-take, getD-drop}
+use lib.Seq.{drop-cons}
 use Rattle.laws.proofs.Joins.{number, paired, paired-lt}
 use Rattle.laws.proofs.Turns.{exchange, exchanged, regrouped, exchange-row, exchanged-all}
-use Rattle.digits.specs.Digits.{ZERO, isDigit, digitValue, areDigits, bytesOf}
+use Rattle.digits.specs.Digits.{isDigit, digitValue, areDigits}
 use Rattle.digits.specs.Numbers.{AreBytes, numberOf}
-use Rattle.digits.specs.Word.{CHARACTERS, charactersIn}
+use Rattle.digits.specs.Word.{charactersIn}
 use Rattle.digits.specs.bounds.Found.{valueIn, eachIn}
-use Rattle.digits.specs.bounds.Loaded.{loadedIn, filled}
-use Rattle.digits.specs.bounds.Part.{pairAt}
-use Rattle.digits.proofs.LoopLaws.{parts, part-bytes}
+use Rattle.digits.specs.bounds.Loaded.{loadedIn}
 use Rattle.digits.proofs.NumberLaws.{number-back, numberBytes-are}
 use Rattle.digits.proofs.WordDigits.{values, values-are}
 use Rattle.digits.proofs.WordLaws.{characters-of}
@@ -111,43 +107,3 @@ from (suc n) k l at h =
 pub taken : (n : ℕ) (l : List ℕ) (at : ℕ) → at + suc n ≤ length l → take (suc n) (drop at l) ≡ getD l at 0 ∷ reads n 1 l at
 taken n l at h =
     ap (λ (i : ℕ). take (suc n) (drop i l)) (sym (add-zero at)) ∙ from (suc n) 0 l at (omega arith) ∙ ap (λ (i : ℕ). getD l i 0 ∷ reads n 1 l at) (add-zero at)
-
--- ---- a tail filled up
-
--- the first i of it, and zeros in the other places
-abbrev pub filledTo : List ℕ → ℕ → List ℕ
-filledTo tail i = take i tail ++ replicate (CHARACTERS - i) ZERO
-
-pub fill-more : (tail : List ℕ) (i : ℕ) → i < length tail → i < CHARACTERS → set (filledTo tail i) i (getD tail i 0) ≡ filledTo tail (i + 1)
-fill-more tail i p q =
-    let zeros = replicate (CHARACTERS - (i + 1)) ZERO in
-    let one-less : CHARACTERS - i ≡ suc (CHARACTERS - (i + 1)) = omega arith in
-    ap (λ (n : ℕ). set (take i tail ++ replicate n ZERO) i (getD tail i 0)) one-less
-    ∙ set-at (take i tail) ZERO zeros (getD tail i 0) i (length-take-le i tail (omega arith))
-    ∙ sym (append-snoc (take i tail) (getD tail i 0) zeros)
-    ∙ ap (λ (l : List ℕ). l ++ zeros) (sym (take-suc tail i 0 p) ∙ ap (λ (n : ℕ). take n tail) (sym (add-one i)))
-
-zeros : (n : ℕ) → areDigits (replicate n ZERO) ≡ true
-unfolding areDigits isDigit
-zeros zero = refl
-zeros (suc n) = zeros n
-
-pub filled-digits : (tail : List ℕ) → areDigits (filled tail) ≡ areDigits tail
-filled-digits tail =
-    parts tail (replicate (CHARACTERS - length tail) ZERO)
-    ∙ ap (λ (t : Bool). areDigits tail && t) (zeros (CHARACTERS - length tail))
-    ∙ and-true (areDigits tail)
-
--- the bytes that a list's tail writes, filled up, as far as the list goes
-pub tail-bytes : (l : List ℕ) (at tail bytes : ℕ) → tail ≡ 2 * at → length l ≡ 2 * bytes
-    → (j : ℕ) → at + j < bytes → getD (bytesOf (filled (take (2 * bytes - tail) (drop tail l)))) j 0 ≡ pairAt l (at + j)
-tail-bytes l at tail bytes e long j p =
-    let part = take (2 * bytes - tail) (drop tail l) in
-    let zeros = replicate (CHARACTERS - length part) ZERO in
-    let rest : length part ≡ 2 * bytes - tail = length-take-le (2 * bytes - tail) (drop tail l) (omega (arith, length-drop tail l)) in
-    let there : (i : ℕ) → i < 2 * (bytes - at) → getD (filled part) i 0 ≡ getD l (2 * at + i) 0 =
-    λ i q. List·getD-append part zeros 0 i (omega arith)
-    ∙ getD-take (2 * bytes - tail) (drop tail l) i 0 (omega arith)
-    ∙ getD-drop tail l i 0
-    ∙ ap (λ (t : ℕ). getD l (t + i) 0) e in
-    part-bytes l (filled part) at (bytes - at) (omega (arith, length-append part zeros)) there j (omega arith)

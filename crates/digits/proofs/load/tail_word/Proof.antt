@@ -1,5 +1,4 @@
 -- `tail_word` meets its contract. The loop's invariant: the first i characters are the tail's, and the others zeros. Assumes nothing.
-use borrow.Author.Needs.{needs}
 use native.Mathlib.Omega.{arith}
 use mathlib.Core.Path.{_≡_, refl, sym, ap, _∙_}
 use mathlib.Core.List.{List, _++_}
@@ -9,7 +8,7 @@ use lib.ListN.{length, getD, set, length-set, replicate}
 use lib.Seq.{take-all}
 use Rattle.digits.specs.Digits.{ZERO}
 use Rattle.digits.specs.Word.{CHARACTERS}
-use Rattle.digits.proofs.LoadLaws.{filledTo, fill-more}
+use Rattle.digits.proofs.TailLaws.{filledTo, fill-more}
 use Rattle.digits.proofs.load.tail_word.Statement.{statement}
 use Rattle.digits.proofs.load.tail_word.Tie as tie
 

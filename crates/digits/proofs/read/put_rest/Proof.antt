@@ -1,8 +1,8 @@
 -- `put_rest` meets its contract. The loop's invariant: below i stands what shall stand there in the end. Assumes nothing.
 use native.Mathlib.Omega.{arith}
-use mathlib.Core.Path.{_≡_, refl, sym, ap, _∙_}
-use mathlib.Core.List.{List, _++_}
-use Prim.Native.Nat.{ℕ, _-_, _+_, _<_, _≤_}
+use mathlib.Core.Path.{_≡_, refl, sym}
+use mathlib.Core.List.{_++_}
+use Prim.Native.Nat.{ℕ, _-_, _+_, _≤_}
 use denote.Ref.{now}
 use lib.ListN.{length, getD, take, length-set}
 use Rattle.digits.specs.bounds.Part.{SameTo}

@@ -12,9 +12,10 @@ use lib.Seq.{take-all}
 use Rattle.digits.specs.Digits.{areDigits, bytesOf}
 use Rattle.digits.specs.bounds.Loaded.{loadedIn}
 use Rattle.digits.specs.bounds.Part.{pairAt}
-use Rattle.digits.proofs.LoadLaws.{loaded-digits, filled-digits, tail-bytes}
+use Rattle.digits.proofs.LoadLaws.{loaded-digits}
 use Rattle.digits.proofs.LoopLaws.{part-more, part-digits, bytes-are, rest-more}
 use Rattle.digits.proofs.SliceLaws.{twice, wrong-length, no-digits, all-digits}
+use Rattle.digits.proofs.TailLaws.{filled-digits, tail-bytes}
 use Rattle.digits.proofs.read.read_digits.Statement.{statement}
 use Rattle.digits.proofs.read.read_digits.Tie as tie
 
