@@ -6,6 +6,7 @@ pub mod LoopLaws
 pub mod NumberLaws
 pub mod SignedLaws
 pub mod SliceLaws
+pub mod StepLaws
 pub mod TailLaws
 pub mod WordDigits
 pub mod WordLaws

@@ -1,28 +1,22 @@
 -- The step's arithmetic, for every word: no lane is wrong exactly when all eight characters are digits, and then the joined values are the number
--- of the four bytes that they write. So the step is what it should be, and reading and writing are inverse. Assumes nothing.
+-- of the four bytes that they write. Assumes nothing.
 use mathlib.Core.Path.{_≡_, refl, sym, ap, ap₂, _∙_, subst}
-use mathlib.Core.Bool.{true, false}
+use mathlib.Core.Bool.{true}
 use mathlib.Core.List.{List, [], _∷_, map, map-id}
-use mathlib.Core.Logic.{⊎-elim}
 use Prim.Native.Nat.{ℕ, _+_, _*_, _/_, _^_, _<_, _≤_}
 use native.Mathlib.Omega.{arith}
 use lib.Dec.{eqb}
 use lib.ListN.{length}
 use lib.Bits.{bitAnd, bitOr, bitXor, mask-lt}
-use Rattle.laws.proofs.Bools.{and-both, either}
+use Rattle.laws.proofs.Bools.{and-both}
 use Rattle.laws.proofs.Joins.{number, paired, seconds, Even, join, paired-lt}
 use Rattle.laws.proofs.Lanes.{AllOf}
-use Rattle.rows.specs.Refusal.{DIGIT}
-use Rattle.digits.specs.declared.word.WordBytes.{WordBytes}
-use Rattle.digits.specs.declared.word.WordBytes.the-variants.{Four, Refused}
-use Rattle.digits.specs.Digits.{isDigit, areDigits, digitValue, bytesOf, digitsOf}
-use Rattle.digits.specs.Inverse.{StepBack, StepWordBack}
-use Rattle.digits.specs.Numbers.{AreBytes, numberOf, numberBytes}
-use Rattle.digits.specs.Word.{CHARACTERS, WRITTEN, charactersIn, stepOf}
-use Rattle.digits.specs.bounds.Found.{LETTER, SIX-FOUR, ADDED, UPPER, letterIn, valueIn, eachIn, Joined}
-use Rattle.digits.proofs.ByteLaws.{length-bytesOf, length-digitsOf, digitsOf-are, bytesOf-are, bytes-digits, digits-bytes}
+use Rattle.digits.specs.Digits.{isDigit, areDigits, digitValue, bytesOf}
+use Rattle.digits.specs.Numbers.{AreBytes, numberOf}
+use Rattle.digits.specs.Word.{CHARACTERS, charactersIn}
+use Rattle.digits.specs.bounds.Found.{LETTER, SIX-FOUR, ADDED, UPPER, letterIn, valueIn, eachIn, FourBy}
 use Rattle.digits.proofs.DigitLaws.{digit-lt}
-use Rattle.digits.proofs.NumberLaws.{length-numberBytes, number-back, bytes-back-at}
+use Rattle.digits.proofs.NumberLaws.{bytes-back-at}
 use Rattle.digits.proofs.WordLanes.{SECOND-BYTES, SECOND-PAIRS, SECOND-HALF, number-row, each-row, word-row, characters-lt}
 use Rattle.digits.proofs.WordDigits.{none-wrong, values-lt, letter-row, value-row, wrong-row, at-most, paired-bytes}
 
@@ -86,25 +80,14 @@ module _ (w : ℕ) (h : w < 2 ^ 64) where
       ap (λ (x : ℕ). eqb x 0) (wrong-row cs (characters-lt w h) w (eachIn letterIn w) (eachIn valueIn w) (word-row w) (each-row letterIn w) (each-row valueIn w))
       ∙ none-wrong cs (characters-lt w h) 0
 
--- ---- the step
-
-module _ (w : ℕ) where
-  pub step-bytes : areDigits (charactersIn w) ≡ true → Four (numberOf (bytesOf (charactersIn w))) ≡ stepOf w
-  unfolding stepOf
-  step-bytes d = rw d
-
-  pub step-refused : areDigits (charactersIn w) ≡ false → Refused DIGIT ≡ stepOf w
-  unfolding stepOf
-  step-refused d = rw d
-
--- ---- the step of the digits of four bytes
+-- ---- words of given characters
 
 -- the characters of the number of eight bytes are these bytes
 pub characters-of : (bs : List ℕ) → length bs ≡ CHARACTERS → AreBytes bs → charactersIn (numberOf bs) ≡ bs
 unfolding charactersIn
 characters-of = bytes-back-at CHARACTERS
 
-are-bytes : (cs : List ℕ) → areDigits cs ≡ true → AreBytes cs
+pub are-bytes : (cs : List ℕ) → areDigits cs ≡ true → AreBytes cs
 unfolding areDigits
 are-bytes [] d = tt
 are-bytes (c ∷ cs) d = let both = and-both (isDigit c) (areDigits cs) d in (digit-lt c (both .0), are-bytes cs (both .1))
@@ -121,36 +104,7 @@ four-law w d =
     ∙ ap (λ (bytes : List ℕ). number 64 0 (paired 16 (paired 8 bytes))) (paired-bytes cs)
     ∙ omega arith
 
-pub joined-law : (v : ℕ) → Joined v (fourOf v)
-joined-law v digits l d e =
+pub four-by-law : (v : ℕ) → FourBy v (fourOf v)
+four-by-law v digits l d e =
     let cs : charactersIn (numberOf digits) ≡ digits = characters-of digits l (are-bytes digits d) in
     ap fourOf e ∙ subst (λ (ds : List ℕ). fourOf (numberOf (map digitValue ds)) ≡ numberOf (bytesOf ds)) cs (four-law (numberOf digits) (ap areDigits cs ∙ d))
-
-pub step-back : StepBack
-step-back bytes l A =
-    let d = digitsOf-are bytes A in
-    let cs : charactersIn (numberOf (digitsOf bytes)) ≡ digitsOf bytes = characters-of (digitsOf bytes) (omega (arith, length-digitsOf bytes, l)) (are-bytes (digitsOf bytes) d) in
-    sym (step-bytes (numberOf (digitsOf bytes)) (ap areDigits cs ∙ d)) ∙ ap (λ (ds : List ℕ). Four (numberOf (bytesOf ds))) cs ∙ ap (λ (bs : List ℕ). Four (numberOf bs)) (bytes-digits bytes A)
-
--- which of the two it is, and the number in it
-isFour : WordBytes → Type 0
-isFour (Four n) = Unit {0}
-isFour (Refused r) = ⊥
-
-inFour : WordBytes → ℕ
-inFour (Four n) = n
-inFour (Refused r) = 0
-
-pub step-word-back : StepWordBack
-unfolding charactersIn isFour inFour
-step-word-back w n e =
-    ⊎-elim
-    (λ d.
-    let cs = charactersIn w in
-    let long : length cs ≡ 2 * WRITTEN = length-numberBytes CHARACTERS w in
-    let number : n ≡ numberOf (bytesOf cs) = ap inFour (sym (step-bytes w d ∙ e)) in
-    let bytes : numberBytes WRITTEN n ≡ bytesOf cs =
-    ap (numberBytes WRITTEN) number ∙ bytes-back-at WRITTEN (bytesOf cs) (length-bytesOf cs WRITTEN long) (bytesOf-are cs d) in
-    ap (λ (bs : List ℕ). numberOf (digitsOf bs)) bytes ∙ ap numberOf (digits-bytes cs WRITTEN long d) ∙ number-back 7 w)
-    (λ d. absurd (subst isFour (sym (step-refused w d ∙ e)) tt))
-    (either (areDigits (charactersIn w)))

@@ -1,16 +1,19 @@
--- Laws: digits and bytes, numbers and bytes, signed numbers and bytes: each is the other's inverse, at every length and width; and so is the step.
+-- Laws: digits and bytes, numbers and bytes, signed numbers and bytes: each is the other's inverse, at every length and width; and so is the step,
+-- which reads eight characters as a slice of them is read.
 use Prim.Native.Nat.{ℕ, suc, _*_, _<_}
 use mathlib.Core.Path.{_≡_}
-use mathlib.Core.Bool.{true}
+use mathlib.Core.Bool.{true, cond}
 use mathlib.Core.List.{List, _∷_}
 use lib.IntN.{ℤ}
 use lib.ListN.{length}
 use lib.Signed.{mag}
+use Rattle.rows.specs.Refusal.{DIGIT}
 use Rattle.digits.specs.Digits.{areDigits, bytesOf, digitsOf}
 use Rattle.digits.specs.Numbers.{AreBytes, numberOf, numberBytes}
 use Rattle.digits.specs.Signed.{half, signedOf, signedBytes}
-use Rattle.digits.specs.Word.{WRITTEN, stepOf}
-use Rattle.digits.specs.declared.word.WordBytes.the-variants.{Four}
+use Rattle.digits.specs.Slices.{readable, bytesAfter}
+use Rattle.digits.specs.Word.{CHARACTERS, WRITTEN, stepOf}
+use Rattle.digits.specs.declared.word.WordBytes.the-variants.{Four, Refused}
 
 abbrev pub DigitsBack : Type 0
 DigitsBack = (digits : List ℕ) (n : ℕ) → length digits ≡ 2 * n → areDigits digits ≡ true → digitsOf (bytesOf digits) ≡ digits
@@ -24,6 +27,12 @@ StepBack = (bytes : List ℕ) → length bytes ≡ WRITTEN → AreBytes bytes �
 
 abbrev pub StepWordBack : Type 0
 StepWordBack = (word n : ℕ) → stepOf word ≡ Four n → numberOf (digitsOf (numberBytes WRITTEN n)) ≡ word
+
+-- the step on the word of eight characters gives what they are read to as a slice, into any four bytes
+abbrev pub StepReads : Type 0
+StepReads =
+    (characters bytes : List ℕ) → length characters ≡ CHARACTERS → AreBytes characters → length bytes ≡ WRITTEN
+    → stepOf (numberOf characters) ≡ cond (readable characters bytes) (Four (numberOf (bytesAfter characters bytes))) (Refused DIGIT)
 
 -- of one byte or more
 abbrev pub NumberBack : Type 0

@@ -48,7 +48,7 @@ pub fn word_at(s: &[u8], at: usize) -> u64
     )
 }
 
-// The characters of a tail, filled up with zeros.
+// The characters of a tail, filled up with the digit 0.
 pub fn tail_word(tail: &[u8]) -> u64
     requires { ⌜ length (now tail) ≤ CHARACTERS ⌝ }
     ensures { λ r. ⌜ loadedIn r ≡ filled (now (tail .entry)) ⌝ }

@@ -1,6 +1,7 @@
 // Digits of a slice to bytes: eight at a time, as words, and the tail, fewer than eight, as a word
-// filled up. Words go by the parts of the step, its test and its bytes, of which `read_word` is made:
-// they are called apart, for a refusal changes no byte, so all is tested before the first is put.
+// filled up. Words go by the parts of which the step, `read_word`, is made: the test, `are_eight`, and
+// for the bytes `values` and `four_by`. They are called apart, for a refusal changes no byte, so all is
+// tested before the first is put; and on words as they are loaded, so the values are turned between.
 
 use crate::load::CHARACTERS;
 use crate::load::tail_word;
@@ -8,7 +9,7 @@ use crate::load::turned;
 use crate::load::word_at;
 use crate::number::bytes4;
 use crate::word::are_eight;
-use crate::word::joined;
+use crate::word::four_by;
 use crate::word::values;
 ghost use mathlib.Core.Path.{_≡_};
 ghost use mathlib.Core.Bool.{true};
@@ -39,13 +40,13 @@ fn are_words(digits: &[u8], words: usize) -> bool
     good
 }
 
-// The bytes that a word of digits writes, as it is loaded. What they stand for is worked out before
-// the word is turned: the test has done so already, and the compiler does it once.
+// The bytes that a word of digits writes, as it is loaded. What the digits stand for is worked out
+// first, and then turned: the test has done the first already, and the compiler does it once.
 fn loaded_bytes(word: u64) -> [u8; WRITTEN]
     requires { ⌜ areDigits (loadedIn word) ≡ true ⌝ }
     ensures { λ r. ⌜ r ≡ bytesOf (loadedIn word) ⌝ }
 {
-    bytes4(joined(turned(values(word))))
+    bytes4(four_by(turned(values(word))))
 }
 
 // Puts the bytes of so many words.
@@ -87,13 +88,13 @@ pub fn read_digits(digits: &[u8], bytes: &mut [u8]) -> bool
         return false;
     }
     let words = bytes.len() / WRITTEN;
-    let tail = CHARACTERS * words;
+    let place = CHARACTERS * words;
     let end = 2 * bytes.len();
-    let rest = tail_word(&digits[tail..end]);
-    if !(are_words(digits, words) & are_eight(rest)) {
+    let tail = tail_word(&digits[place..end]);
+    if !(are_words(digits, words) & are_eight(tail)) {
         return false;
     }
     put_words(digits, bytes, words);
-    put_rest(loaded_bytes(rest), bytes, WRITTEN * words);
+    put_rest(loaded_bytes(tail), bytes, WRITTEN * words);
     true
 }

@@ -1,11 +1,12 @@
 // A word of eight characters, the first highest, read at once: document 02, request Four. Whatever the
-// word, nothing here carries from one character into another.
+// word, nothing here carries from one character into another; and what they stand for and the test do
+// not go by the order, so that a word as it is loaded, the first lowest, is given to these too.
 
 use rows::refusal::DIGIT;
 ghost use mathlib.Core.Path.{_≡_};
 ghost use Rattle.digits.specs.Digits.{areDigits};
 ghost use Rattle.digits.specs.Word.{charactersIn, stepOf};
-ghost use Rattle.digits.specs.bounds.Found.{letterIn, valueIn, eachIn, Joined};
+ghost use Rattle.digits.specs.bounds.Found.{letterIn, valueIn, eachIn, FourBy};
 
 // The second of each two bytes, of each two pairs of bytes and of the two halves of a word.
 pub const SECOND_BYTES: u64 = 0x00ff_00ff_00ff_00ff;
@@ -48,8 +49,8 @@ pub fn are_eight(word: u64) -> bool
 }
 
 // The step's bytes, by what eight digits stand for: joined two by two, three times.
-pub fn joined(value: u64) -> u32
-    ensures { λ r. ⌜ Joined value r ⌝ }
+pub fn four_by(value: u64) -> u32
+    ensures { λ r. ⌜ FourBy value r ⌝ }
 {
     let bytes = (value | (value >> 4)) & SECOND_BYTES;
     let pairs = (bytes | (bytes >> 8)) & SECOND_PAIRS;
@@ -61,7 +62,7 @@ pub fn read_word(word: u64) -> WordBytes
     ensures { λ r. ⌜ r ≡ stepOf word ⌝ }
 {
     if are_eight(word) {
-        return WordBytes::Four(joined(values(word)));
+        return WordBytes::Four(four_by(values(word)));
     }
     WordBytes::Refused(DIGIT)
 }

@@ -45,7 +45,7 @@ wrongIn c = bitAnd (bitOr (bitXor (bitXor c (SIX-FOUR * letterIn c)) (valueIn c 
 abbrev pub eachIn : (ℕ → ℕ) → ℕ → ℕ
 eachIn f word = numberOf (map f (charactersIn word))
 
--- n is the number of the bytes that eight digits write, of those that have these values
-abbrev pub Joined : ℕ → ℕ → Type 0
-Joined values n =
+-- where `values` is the word of what eight digits stand for, n is the number of the bytes that they write
+abbrev pub FourBy : ℕ → ℕ → Type 0
+FourBy values n =
     (digits : List ℕ) → length digits ≡ CHARACTERS → areDigits digits ≡ true → values ≡ numberOf (map digitValue digits) → n ≡ numberOf (bytesOf digits)

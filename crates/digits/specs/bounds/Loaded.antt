@@ -1,4 +1,4 @@
--- A word as it is loaded has its first character lowest; and a tail of fewer than eight characters is filled up with zeros.
+-- A word as it is loaded has its first character lowest; and a tail, at most eight characters, is filled up to eight with the digit 0.
 use Prim.Native.Nat.{ℕ, _-_}
 use mathlib.Core.List.{List, _++_, reverse}
 use lib.ListN.{length, replicate}

@@ -18,8 +18,8 @@ values-requires c κs = search needs
 turned-requires : tie.Need-turned-requires
 turned-requires c κs = search needs
 
-joined-requires : tie.Need-joined-requires
-joined-requires c κs = search needs
+four-by-requires : tie.Need-four-by-requires
+four-by-requires c κs = search needs
 
 bytes4-requires : tie.Need-bytes4-requires
 bytes4-requires c κs = search needs
@@ -33,8 +33,8 @@ returns c =
     let long : length (loadedIn word) ≡ CHARACTERS = length-reverse (charactersIn word) ∙ length-numberBytes CHARACTERS word in
     let value = loaded-values word (c .before .before .turned .result) d (c .before .before .turned .ensures ∙ ap loadedIn (c .before .before .before .values .ensures)) in
     c .bytes4 .ensures
-    ∙ ap (numberBytes WRITTEN) (c .before .joined .ensures (loadedIn word) long d value)
+    ∙ ap (numberBytes WRITTEN) (c .before .four-by .ensures (loadedIn word) long d value)
     ∙ bytes-back-at WRITTEN (bytesOf (loadedIn word)) (length-bytesOf (loadedIn word) WRITTEN long) (bytesOf-are (loadedIn word) d)
 
 pub loaded-bytes-spec : {M : Type 1} → statement M
-loaded-bytes-spec = tie.close (tie.spec values-requires turned-requires joined-requires bytes4-requires returns)
+loaded-bytes-spec = tie.close (tie.spec values-requires turned-requires four-by-requires bytes4-requires returns)

@@ -35,10 +35,10 @@ tested c =
     let start = c .before .before .before .before .before .before .before .args in
     let l = now (start .digits) in
     let bytes = length (now (start .bytes)) in
-    let tail = 8 * (bytes / 4) in
+    let place = 8 * (bytes / 4) in
     ap₂ (λ (a b : Bool). a && b) (c .before .are-words .ensures) (c .are-eight .ensures ∙ loaded-digits (c .before .before .tail-word .result) ∙ tail-digits (c .before .before))
-    ∙ part-more l tail (2 * bytes - tail)
-    ∙ ap areDigits (take-all (tail + (2 * bytes - tail)) l (omega (arith, long (c .before .before .before .before))))
+    ∙ part-more l place (2 * bytes - place)
+    ∙ ap areDigits (take-all (place + (2 * bytes - place)) l (omega (arith, long (c .before .before .before .before))))
 
 good : (c : tie.Else2) → areDigits (now (c .before .before .before .before .before .before .before .before .args .digits)) ≡ true
 good c = sym (tested (c .before)) ∙ not-false _ (c .if2 .left)
@@ -46,8 +46,8 @@ good c = sym (tested (c .before)) ∙ not-false _ (c .if2 .left)
 returns : tie.Need-returns
 returns c = wrong-length _ _ (c .if1 .taken)
 
-mul-tail : tie.Need-mul-tail
-mul-tail c = search needs
+mul-place : tie.Need-mul-place
+mul-place c = search needs
 
 mul-end : tie.Need-mul-end
 mul-end c = search needs
@@ -117,7 +117,7 @@ read-digits-spec =
     tie.close
     (tie.spec
     returns
-    mul-tail
+    mul-place
     mul-end
     sub-tail-word
     part-tail-word-start
