@@ -18,7 +18,7 @@ use Rattle.digits.specs.Word.{CHARACTERS, WRITTEN, charactersIn, stepOf}
 use Rattle.digits.proofs.ByteLaws.{length-bytesOf, length-digitsOf, digitsOf-are, bytesOf-are, bytes-digits, digits-bytes}
 use Rattle.digits.proofs.NumberLaws.{length-numberBytes, number-back, bytes-back-at}
 use Rattle.digits.proofs.SliceLaws.{readable-digits, read-bytes}
-use Rattle.digits.proofs.WordLaws.{characters-of, are-bytes}
+use Rattle.digits.proofs.WordLaws.{characters-of, digits-are-bytes}
 
 -- ---- its two cases
 
@@ -36,7 +36,7 @@ module _ (w : ℕ) where
 pub step-back : StepBack
 step-back bytes l A =
     let d = digitsOf-are bytes A in
-    let cs : charactersIn (numberOf (digitsOf bytes)) ≡ digitsOf bytes = characters-of (digitsOf bytes) (omega (arith, length-digitsOf bytes, l)) (are-bytes (digitsOf bytes) d) in
+    let cs : charactersIn (numberOf (digitsOf bytes)) ≡ digitsOf bytes = characters-of (digitsOf bytes) (omega (arith, length-digitsOf bytes, l)) (digits-are-bytes (digitsOf bytes) d) in
     sym (step-bytes (numberOf (digitsOf bytes)) (ap areDigits cs ∙ d)) ∙ ap (λ (ds : List ℕ). Four (numberOf (bytesOf ds))) cs ∙ ap (λ (bs : List ℕ). Four (numberOf bs)) (bytes-digits bytes A)
 
 -- which of the two it is, and the number in it

@@ -15,10 +15,26 @@ use Rattle.laws.proofs.Joins.{paired}
 use Rattle.laws.proofs.Lanes.{lanes, AllOf, all-of, row, row-sum, row-times, row-same, row-le, row-bit6}
 use Rattle.digits.specs.Digits.{isDigit, digitValue, areDigits, bytesOf}
 use Rattle.digits.specs.Numbers.{AreBytes}
-use Rattle.digits.specs.bounds.Found.{LETTER, SIX-FOUR, ADDED, UPPER, letterIn, valueIn, wrongIn}
+use Rattle.digits.specs.bounds.Found.{LETTER, letterIn, valueIn}
 use Rattle.digits.proofs.DigitLaws.{digit-lt, value-lt}
 
 -- ---- one lane
+
+-- the bit in which a letter's upper half, 6, differs from 4
+abbrev pub SIX-FOUR : ℕ
+SIX-FOUR = 32
+
+-- what takes a value up to 9 to an upper half of 3, and one from 10 on to 4
+abbrev pub ADDED : ℕ
+ADDED = 0x36
+
+-- the upper half of a character
+abbrev pub UPPER : ℕ
+UPPER = 0xf0
+
+-- what the test finds wrong with a character: 0 exactly where it is a digit
+abbrev wrongIn : ℕ → ℕ
+wrongIn c = bitAnd (bitOr (bitXor (bitXor c (SIX-FOUR * letterIn c)) (valueIn c + ADDED)) (valueIn c)) UPPER
 
 -- a test of each byte, computed for all of them
 of-byte : (t : ℕ → Bool) → allBelow 256 t ≡ true → (b : ℕ) → b < 256 → t b ≡ true
@@ -88,8 +104,8 @@ paired-bytes (h ∷ l ∷ rest) = ap₂ _∷_ (omega arith) (paired-bytes rest)
 -- ---- the rows that the step's arithmetic goes through
 
 module _ (bs : List ℕ) (h : AllOf (λ b. b < 256) bs) where
-  abbrev Row : (ℕ → ℕ) → ℕ
-  Row f = lanes 8 f 0 bs
+  abbrev InLanes : (ℕ → ℕ) → ℕ
+  InLanes f = lanes 8 f 0 bs
 
   -- in each lane a byte: no lane is carried into
   abbrev Small : (ℕ → ℕ) → Type 0
@@ -98,36 +114,36 @@ module _ (bs : List ℕ) (h : AllOf (λ b. b < 256) bs) where
   small : (f : ℕ → ℕ) → Small f → AllOf (λ b. f b < 256) bs
   small f t = all-of (λ b p. ltb-true (f b) 256 (of-byte (λ b. ltb (f b) 256) t b p)) bs h
 
-  and-row : (f g : ℕ → ℕ) → Small f → Small g → bitAnd (Row f) (Row g) ≡ Row (λ b. bitAnd (f b) (g b))
+  and-row : (f g : ℕ → ℕ) → Small f → Small g → bitAnd (InLanes f) (InLanes g) ≡ InLanes (λ b. bitAnd (f b) (g b))
   and-row f g F G = row bitAnd and-block 8 f g bs (small f F) (small g G) 0 0
 
-  or-row : (f g : ℕ → ℕ) → Small f → Small g → bitOr (Row f) (Row g) ≡ Row (λ b. bitOr (f b) (g b))
+  or-row : (f g : ℕ → ℕ) → Small f → Small g → bitOr (InLanes f) (InLanes g) ≡ InLanes (λ b. bitOr (f b) (g b))
   or-row f g F G = row bitOr or-block 8 f g bs (small f F) (small g G) 0 0
 
-  xor-row : (f g : ℕ → ℕ) → Small f → Small g → bitXor (Row f) (Row g) ≡ Row (λ b. bitXor (f b) (g b))
+  xor-row : (f g : ℕ → ℕ) → Small f → Small g → bitXor (InLanes f) (InLanes g) ≡ InLanes (λ b. bitXor (f b) (g b))
   xor-row f g F G = row bitXor xor-block 8 f g bs (small f F) (small g G) 0 0
 
   -- at most m in each lane
-  pub at-most : (f : ℕ → ℕ) (m : ℕ) → allBelow 256 (λ b. leb (f b) m) ≡ true → Row f ≤ Row (λ b. m)
+  pub at-most : (f : ℕ → ℕ) (m : ℕ) → allBelow 256 (λ b. leb (f b) m) ≡ true → InLanes f ≤ InLanes (λ b. m)
   at-most f m t = row-le 8 f (λ b. m) bs (all-of (λ b p. leb-true (f b) m (of-byte (λ b. leb (f b) m) t b p)) bs h) 0 0 (le-refl 0)
 
-  pub letter-row : bitAnd (Row (λ b. b) / 64) (Row (λ b. 1)) ≡ Row letterIn
+  pub letter-row : bitAnd (InLanes (λ b. b) / 64) (InLanes (λ b. 1)) ≡ InLanes letterIn
   letter-row = row-bit6 bs h 0 0
 
-  pub value-row : bitAnd (Row (λ b. b)) (Row (λ b. 15)) + LETTER * Row letterIn ≡ Row valueIn
+  pub value-row : bitAnd (InLanes (λ b. b)) (InLanes (λ b. 15)) + LETTER * InLanes letterIn ≡ InLanes valueIn
   value-row =
       ap₂ _+_ (and-row (λ b. b) (λ b. 15) refl refl ∙ row-same 8 (λ b. bitAnd b 15) (λ b. b % 16) (λ b. and-mask b 4) bs 0) (row-times LETTER 8 letterIn bs 0)
       ∙ row-sum 8 (λ b. b % 16) (λ b. LETTER * letterIn b) bs 0 0
 
   -- the word w, and the letters l and values v that it gives
-  pub wrong-row : (w l v : ℕ) → w ≡ Row (λ b. b) → l ≡ Row letterIn → v ≡ Row valueIn
-      → bitAnd (bitOr (bitXor (bitXor w (SIX-FOUR * l)) (v + Row (λ b. ADDED))) v) (Row (λ b. UPPER)) ≡ Row wrongIn
+  pub wrong-row : (w l v : ℕ) → w ≡ InLanes (λ b. b) → l ≡ InLanes letterIn → v ≡ InLanes valueIn
+      → bitAnd (bitOr (bitXor (bitXor w (SIX-FOUR * l)) (v + InLanes (λ b. ADDED))) v) (InLanes (λ b. UPPER)) ≡ InLanes wrongIn
   wrong-row w l v word letters values =
-      let six-four : SIX-FOUR * l ≡ Row (λ b. SIX-FOUR * letterIn b) = ap (λ (x : ℕ). SIX-FOUR * x) letters ∙ row-times SIX-FOUR 8 letterIn bs 0 in
-      let upper : bitXor w (SIX-FOUR * l) ≡ Row (λ b. bitXor b (SIX-FOUR * letterIn b)) = ap₂ bitXor word six-four ∙ xor-row (λ b. b) (λ b. SIX-FOUR * letterIn b) refl refl in
-      let added : v + Row (λ b. ADDED) ≡ Row (λ b. valueIn b + ADDED) = ap (λ (x : ℕ). x + Row (λ b. ADDED)) values ∙ row-sum 8 valueIn (λ b. ADDED) bs 0 0 in
-      let apart : bitXor (bitXor w (SIX-FOUR * l)) (v + Row (λ b. ADDED)) ≡ Row (λ b. bitXor (bitXor b (SIX-FOUR * letterIn b)) (valueIn b + ADDED)) =
+      let six-four : SIX-FOUR * l ≡ InLanes (λ b. SIX-FOUR * letterIn b) = ap (λ (x : ℕ). SIX-FOUR * x) letters ∙ row-times SIX-FOUR 8 letterIn bs 0 in
+      let upper : bitXor w (SIX-FOUR * l) ≡ InLanes (λ b. bitXor b (SIX-FOUR * letterIn b)) = ap₂ bitXor word six-four ∙ xor-row (λ b. b) (λ b. SIX-FOUR * letterIn b) refl refl in
+      let added : v + InLanes (λ b. ADDED) ≡ InLanes (λ b. valueIn b + ADDED) = ap (λ (x : ℕ). x + InLanes (λ b. ADDED)) values ∙ row-sum 8 valueIn (λ b. ADDED) bs 0 0 in
+      let apart : bitXor (bitXor w (SIX-FOUR * l)) (v + InLanes (λ b. ADDED)) ≡ InLanes (λ b. bitXor (bitXor b (SIX-FOUR * letterIn b)) (valueIn b + ADDED)) =
       ap₂ bitXor upper added ∙ xor-row (λ b. bitXor b (SIX-FOUR * letterIn b)) (λ b. valueIn b + ADDED) refl refl in
-      ap (λ (x : ℕ). bitAnd x (Row (λ b. UPPER)))
+      ap (λ (x : ℕ). bitAnd x (InLanes (λ b. UPPER)))
       (ap₂ bitOr apart values ∙ or-row (λ b. bitXor (bitXor b (SIX-FOUR * letterIn b)) (valueIn b + ADDED)) valueIn refl refl)
       ∙ and-row (λ b. bitOr (bitXor (bitXor b (SIX-FOUR * letterIn b)) (valueIn b + ADDED)) (valueIn b)) (λ b. UPPER) refl refl

@@ -14,11 +14,11 @@ use Rattle.laws.proofs.Lanes.{AllOf}
 use Rattle.digits.specs.Digits.{isDigit, areDigits, digitValue, bytesOf}
 use Rattle.digits.specs.Numbers.{AreBytes, numberOf}
 use Rattle.digits.specs.Word.{CHARACTERS, charactersIn}
-use Rattle.digits.specs.bounds.Found.{LETTER, SIX-FOUR, ADDED, UPPER, letterIn, valueIn, eachIn, FourBy}
+use Rattle.digits.specs.bounds.Found.{LETTER, letterIn, valueIn, eachIn, FourBy}
 use Rattle.digits.proofs.DigitLaws.{digit-lt}
 use Rattle.digits.proofs.NumberLaws.{bytes-back-at}
 use Rattle.digits.proofs.WordLanes.{SECOND-BYTES, SECOND-PAIRS, SECOND-HALF, number-row, each-row, word-row, characters-lt}
-use Rattle.digits.proofs.WordDigits.{none-wrong, values-lt, letter-row, value-row, wrong-row, at-most, paired-bytes}
+use Rattle.digits.proofs.WordDigits.{SIX-FOUR, ADDED, UPPER, none-wrong, values-lt, letter-row, value-row, wrong-row, at-most, paired-bytes}
 
 -- ---- what the code computes
 
@@ -87,10 +87,10 @@ pub characters-of : (bs : List ℕ) → length bs ≡ CHARACTERS → AreBytes bs
 unfolding charactersIn
 characters-of = bytes-back-at CHARACTERS
 
-pub are-bytes : (cs : List ℕ) → areDigits cs ≡ true → AreBytes cs
+pub digits-are-bytes : (cs : List ℕ) → areDigits cs ≡ true → AreBytes cs
 unfolding areDigits
-are-bytes [] d = tt
-are-bytes (c ∷ cs) d = let both = and-both (isDigit c) (areDigits cs) d in (digit-lt c (both .0), are-bytes cs (both .1))
+digits-are-bytes [] d = tt
+digits-are-bytes (c ∷ cs) d = let both = and-both (isDigit c) (areDigits cs) d in (digit-lt c (both .0), digits-are-bytes cs (both .1))
 
 -- ---- the values joined
 
@@ -106,5 +106,5 @@ four-law w d =
 
 pub four-by-law : (v : ℕ) → FourBy v (fourOf v)
 four-by-law v digits l d e =
-    let cs : charactersIn (numberOf digits) ≡ digits = characters-of digits l (are-bytes digits d) in
+    let cs : charactersIn (numberOf digits) ≡ digits = characters-of digits l (digits-are-bytes digits d) in
     ap fourOf e ∙ subst (λ (ds : List ℕ). fourOf (numberOf (map digitValue ds)) ≡ numberOf (bytesOf ds)) cs (four-law (numberOf digits) (ap areDigits cs ∙ d))

@@ -1,5 +1,5 @@
--- Laws: digits and bytes, numbers and bytes, signed numbers and bytes: each is the other's inverse, at every length and width; and so is the step,
--- which reads eight characters as a slice of them is read.
+-- Laws: digits and bytes, numbers and bytes, signed numbers and bytes: each is the other's inverse, at every length and width; so are the step
+-- and the writing of four bytes; and the step reads eight characters as a slice of them is read.
 use Prim.Native.Nat.{ℕ, suc, _*_, _<_}
 use mathlib.Core.Path.{_≡_}
 use mathlib.Core.Bool.{true, cond}
@@ -28,7 +28,8 @@ StepBack = (bytes : List ℕ) → length bytes ≡ WRITTEN → AreBytes bytes �
 abbrev pub StepWordBack : Type 0
 StepWordBack = (word n : ℕ) → stepOf word ≡ Four n → numberOf (digitsOf (numberBytes WRITTEN n)) ≡ word
 
--- the step on the word of eight characters gives what they are read to as a slice, into any four bytes
+-- the step on the word of eight characters gives what reading them as a slice gives, whatever four bytes are lent: the number of the bytes read, or the
+-- refusal where they are not read
 abbrev pub StepReads : Type 0
 StepReads =
     (characters bytes : List ℕ) → length characters ≡ CHARACTERS → AreBytes characters → length bytes ≡ WRITTEN

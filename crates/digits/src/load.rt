@@ -1,4 +1,5 @@
-// Eight characters of a slice as a word, as it is loaded: the first lowest.
+// Eight characters of a slice as a word, as it is loaded: the first lowest; a tail filled up to eight;
+// and a word turned around.
 
 use crate::number::eight;
 use crate::word::SECOND_BYTES;

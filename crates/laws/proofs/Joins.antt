@@ -1,5 +1,5 @@
--- Neighbouring lanes joined: `(x | x >> c) & mask` of a row of lanes of c + c bits, each filled only to c bits, with the low half of every
--- second lane kept. Each pair of lanes h and l becomes one lane of twice the width that holds h · 2^c + l. One law for every c.
+-- Neighbouring lanes joined: `(x | x >> c) & mask` of a row of lanes of c + c bits, each filled only to c bits, the mask having every
+-- second lane. Each pair of lanes h and l becomes one lane of twice the width that holds h · 2^c + l. One law for every c.
 -- Assumes nothing.
 use mathlib.Core.Path.{_≡_, refl, sym, ap, ap₂, _∙_}
 use mathlib.Core.List.{List, [], _∷_}
@@ -20,7 +20,7 @@ paired c [] = []
 paired c (h ∷ []) = []
 paired c (h ∷ l ∷ rest) = (h * 2 ^ c + l) ∷ paired c rest
 
--- the k low bits of every second lane of k, of as many as the list has
+-- the mask that has every second lane of k bits, of as many lanes as the list has
 abbrev pub seconds : ℕ → ℕ → List ℕ → ℕ
 seconds k above [] = above
 seconds k above (h ∷ []) = above

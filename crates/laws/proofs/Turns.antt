@@ -15,7 +15,7 @@ exchanged [] = []
 exchanged (h ∷ []) = h ∷ []
 exchanged (h ∷ l ∷ rest) = l ∷ h ∷ exchanged rest
 
--- what the code computes
+-- by shifts and a mask, no bit being lost
 abbrev pub exchange : ℕ → ℕ → ℕ → ℕ
 exchange c mask x = bitOr (bitAnd x mask * 2 ^ c) (bitAnd (x / 2 ^ c) mask)
 

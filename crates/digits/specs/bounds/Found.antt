@@ -3,7 +3,6 @@ use Prim.Native.Nat.{ℕ, _+_, _*_, _/_, _%_}
 use mathlib.Core.Path.{_≡_}
 use mathlib.Core.Bool.{true}
 use mathlib.Core.List.{List, map}
-use lib.Bits.{bitAnd, bitOr, bitXor}
 use lib.ListN.{length}
 use Rattle.digits.specs.Digits.{areDigits, digitValue, bytesOf}
 use Rattle.digits.specs.Numbers.{numberOf}
@@ -21,31 +20,13 @@ LETTER = 9
 abbrev pub valueIn : ℕ → ℕ
 valueIn c = c % 16 + LETTER * letterIn c
 
--- ---- what only the proof of the test needs
-
--- the bit in which a letter's upper half, 6, differs from 4
-abbrev pub SIX-FOUR : ℕ
-SIX-FOUR = 32
-
--- what takes a value up to 9 to an upper half of 3, and one from 10 on to 4
-abbrev pub ADDED : ℕ
-ADDED = 0x36
-
--- the upper half of a character
-abbrev pub UPPER : ℕ
-UPPER = 0xf0
-
--- what is wrong with a character: 0 exactly where it is a digit
-abbrev pub wrongIn : ℕ → ℕ
-wrongIn c = bitAnd (bitOr (bitXor (bitXor c (SIX-FOUR * letterIn c)) (valueIn c + ADDED)) (valueIn c)) UPPER
-
 -- ---- of a whole word
 
 -- the word that has f of each character in its place
 abbrev pub eachIn : (ℕ → ℕ) → ℕ → ℕ
 eachIn f word = numberOf (map f (charactersIn word))
 
--- where `values` is the word of what eight digits stand for, n is the number of the bytes that they write
+-- where `value` is the word of what eight digits stand for, n is the number of the bytes that they write
 abbrev pub FourBy : ℕ → ℕ → Type 0
-FourBy values n =
-    (digits : List ℕ) → length digits ≡ CHARACTERS → areDigits digits ≡ true → values ≡ numberOf (map digitValue digits) → n ≡ numberOf (bytesOf digits)
+FourBy value n =
+    (digits : List ℕ) → length digits ≡ CHARACTERS → areDigits digits ≡ true → value ≡ numberOf (map digitValue digits) → n ≡ numberOf (bytesOf digits)

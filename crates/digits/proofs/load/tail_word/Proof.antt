@@ -1,4 +1,4 @@
--- `tail_word` meets its contract. The loop's invariant: the first i characters are the tail's, and the others zeros. Assumes nothing.
+-- `tail_word` meets its contract. The loop's invariant: the first i characters are the tail's, and the others the digit 0. Assumes nothing.
 use native.Mathlib.Omega.{arith}
 use mathlib.Core.Path.{_≡_, refl, sym, ap, _∙_}
 use mathlib.Core.List.{List, _++_}
