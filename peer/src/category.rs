@@ -3,7 +3,7 @@
 
 use crate::charts::{Turns, FOOD, KINDS, RESIDUE};
 use crate::compound::Compound;
-use crate::difference::{differences, residue_difference, Difference, Powers};
+use crate::difference::{differences, residue_difference, Powers};
 use crate::food_line::{self, ANALYTES, STUDY};
 use crate::head::Head;
 use crate::refused::Refusal;
@@ -31,7 +31,7 @@ pub struct Seen {
     pub kind: Kind,
     pub head: Head,
     /// One for each analyte, then zeros; none where a reading is lost or the days exceed 21.
-    pub differences: Option<[Difference; ANALYTES]>,
+    pub differences: Option<[i32; ANALYTES]>,
     /// The line's count of them; food has none.
     pub misidentifications: u8,
 }
@@ -107,9 +107,7 @@ fn food_seen(line: &food_line::Line, powers: &impl Powers) -> Seen {
 fn residue_seen(line: residue_line::Line) -> Seen {
     let differences = match line.outcome {
         Outcome::Log(log) if !line.head.late() => {
-            let none = Difference::default();
-            let own = residue_difference(log, line.comparison, line.compound.value());
-            Some([own, none, none, none])
+            Some([residue_difference(log, line.comparison, line.compound.value()), 0, 0, 0])
         }
         _ => None,
     };

@@ -1,18 +1,9 @@
 //! "Contributions to the charts" and the runs of "Stretch and run".
 
-use crate::difference::{any_marked, Difference};
-
 /// Charts of one analyte: P, N, V, D.
 pub const KINDS: usize = 4;
-
-/// What one sample adds.
-#[derive(Clone, Debug, PartialEq, Eq)]
-pub struct Contributions {
-    /// To each chart, by its number.
-    pub charts: Vec<i32>,
-    /// Whether one of its differences is marked.
-    pub marked: bool,
-}
+/// What one sample adds to each chart, by chart number.
+pub type Contributions = Vec<i32>;
 
 /// What charts P and N of a category go by, in tenths. N turns where P does, with the other sign.
 pub struct Turns {
@@ -71,12 +62,11 @@ pub fn large_discrepancy(measure: i32) -> i32 {
 }
 
 /// What a sample with these differences, one for each analyte, adds to the charts.
-pub fn contributions(differences: &[Difference], turns: &Turns) -> Contributions {
-    let own = |&Difference { d, .. }: &Difference| {
+pub fn contributions(differences: &[i32], turns: &Turns) -> Contributions {
+    let own = |&d: &i32| {
         [turns.positive(d), turns.negative(d), variability(d), large_discrepancy(measure(d))]
     };
-    let charts = differences.iter().flat_map(own).collect();
-    Contributions { charts, marked: any_marked(differences) }
+    differences.iter().flat_map(own).collect()
 }
 
 /// Samples `first` to `last` of a stretch, numbered from 1, and the sum of their contributions.
@@ -111,10 +101,10 @@ pub struct Over {
 
 /// The charts that are over after the samples of a stretch, lowest number first.
 pub fn over(stretch: &[Contributions], turns: &Turns) -> Vec<Over> {
-    let charts = stretch.first().map_or(0, |sample| sample.charts.len());
+    let charts = stretch.first().map_or(0, Vec::len);
     (0..charts)
         .filter_map(|chart| {
-            let own: Vec<i32> = stretch.iter().map(|sample| sample.charts[chart]).collect();
+            let own: Vec<i32> = stretch.iter().map(|sample| sample[chart]).collect();
             let run = highest_run(&own).filter(|run| run.sum > turns.limit(chart))?;
             Some(Over { chart, run })
         })

@@ -1,14 +1,10 @@
-//! "Standardizing value and difference": s = k × p and d, the difference of request One, and the
-//! mark of request Five.
-
-use std::sync::OnceLock;
+//! "Standardizing value and difference": s = k × p and d, and the difference of request One.
 
 use crate::food_line::{Class, Line, Product, ANALYTES, FAT, MOISTURE, PROTEIN, SALT};
 use crate::natural::{largest, Natural};
 
 /// p where the table has a constant.
 const CONSTANT: u32 = 10_000;
-/// The largest size of d.
 const CAP: u64 = 999;
 const LARGEST_T: u32 = 1000;
 const LARGEST_MEAN: u32 = 10_000;
@@ -47,7 +43,7 @@ impl Powers for Derived {
 }
 
 /// Worked out once for every T and every mean.
-#[derive(Clone, Default)]
+#[derive(Default)]
 pub struct Tables {
     protein_powers: Vec<u32>,
     fourth_roots: Vec<u16>,
@@ -55,12 +51,10 @@ pub struct Tables {
 
 impl Tables {
     pub fn derive() -> Tables {
-        static DERIVED: OnceLock<Tables> = OnceLock::new();
-        let derived = DERIVED.get_or_init(|| Tables {
+        Tables {
             protein_powers: (0..=LARGEST_T).map(protein_power).collect(),
             fourth_roots: (0..=LARGEST_MEAN).map(|mean| fourth_root(mean) as u16).collect(),
-        });
-        derived.clone()
+        }
     }
 }
 
@@ -110,48 +104,34 @@ fn fat_thousandths(class: Class, mean: u32) -> u32 {
     }
 }
 
-/// A standardized difference.
-#[derive(Clone, Copy, Debug, Default, PartialEq, Eq)]
-pub struct Difference {
-    /// In tenths.
-    pub d: i32,
-    /// Whether the cap was applied: the rounded size was above it.
-    pub marked: bool,
-}
-
-/// Whether one of them is marked.
-pub fn any_marked(differences: &[Difference]) -> bool {
-    differences.iter().any(|own| own.marked)
-}
-
-/// h × scale / value with the sign of h: to the nearest whole, halves away from zero, then capped.
-fn rounded(h: i32, scale: u64, value: u32) -> Difference {
+/// h × scale / value with the sign of h: to the nearest whole, halves away from zero, capped.
+fn rounded(h: i32, scale: u64, value: u32) -> i32 {
     let value = u64::from(value);
     let doubled = 2 * u64::from(h.unsigned_abs()) * scale;
-    let size = (doubled + value) / (2 * value);
-    Difference { d: h.signum() * size.min(CAP) as i32, marked: size > CAP }
+    let size = ((doubled + value) / (2 * value)).min(CAP);
+    h.signum() * size as i32
 }
 
-/// From reading and mean in hundredths and the value s.
-pub fn difference(reading: u16, mean: u16, value: u32) -> Difference {
+/// d in tenths, from reading and mean in hundredths and the value s.
+pub fn difference(reading: u16, mean: u16, value: u32) -> i32 {
     rounded(i32::from(reading) - i32::from(mean), 1_000_000, value)
 }
 
-/// From the logs of result and comparison and the value, all in thousandths.
-pub fn residue_difference(result: i16, comparison: i16, value: u32) -> Difference {
+/// d in tenths, from the logs of result and comparison and the value, all in thousandths.
+pub fn residue_difference(result: i16, comparison: i16, value: u32) -> i32 {
     rounded(i32::from(result) - i32::from(comparison), 10, value)
 }
 
 /// The difference of one reading that is not lost.
 #[inline(always)]
-fn reading_difference(line: &Line, analyte: usize, powers: &impl Powers) -> Difference {
+fn reading_difference(line: &Line, analyte: usize, powers: &impl Powers) -> i32 {
     let mean = line.means[analyte];
     let reading = line.readings[analyte].hundredths().expect("no reading is lost");
     difference(reading, mean, value(line.product, analyte, mean, powers))
 }
 
 /// The four differences of a line with no reading lost.
-pub fn differences(line: &Line, powers: &impl Powers) -> [Difference; ANALYTES] {
+pub fn differences(line: &Line, powers: &impl Powers) -> [i32; ANALYTES] {
     [
         reading_difference(line, MOISTURE, powers),
         reading_difference(line, PROTEIN, powers),

@@ -2,7 +2,7 @@
 
 use crate::category::{Category, Kind, MOST_CHARTS};
 use crate::charts::{measure, Over, Run, KINDS};
-use crate::difference::{any_marked, Difference, Tables};
+use crate::difference::Tables;
 use crate::food_line::ANALYTES;
 use crate::refused::Refusal;
 use crate::study::{Sums, SET};
@@ -23,8 +23,6 @@ pub struct Unit {
     last_month: u32,
     set_lines: u8,
     sums: [Sums; ANALYTES],
-    /// Whether the set under way has a marked difference.
-    set_marked: bool,
     /// The year of the last sample, where there is one.
     year: u16,
     samples: u16,
@@ -55,7 +53,6 @@ impl Unit {
             last_month: 0,
             set_lines: 0,
             sums: Default::default(),
-            set_marked: false,
             year: 0,
             samples: 0,
             values: [0; MOST_CHARTS],
@@ -94,28 +91,26 @@ impl Unit {
         Ok(event)
     }
 
-    fn study(&mut self, own: [Difference; ANALYTES]) -> Event {
-        for (sums, Difference { d, .. }) in self.sums.iter_mut().zip(own) {
+    fn study(&mut self, own: [i32; ANALYTES]) -> Event {
+        for (sums, d) in self.sums.iter_mut().zip(own) {
             sums.add(d, self.measures[d.unsigned_abs() as usize]);
         }
-        self.set_marked |= any_marked(&own);
         self.set_lines += 1;
         if usize::from(self.set_lines) < SET {
             return Event::UnderWay(self.set_lines);
         }
         let passed = self.sums.iter().all(Sums::pass);
-        let marked = std::mem::take(&mut self.set_marked);
         self.set_lines = 0;
         self.sums = Default::default();
         if passed {
             self.admit();
-            return Event::Passed { marked };
+            return Event::Passed;
         }
         self.stage = match self.stage {
             Stage::Applicant => Stage::SecondSet,
             _ => Stage::Closed,
         };
-        Event::Failed { marked }
+        Event::Failed
     }
 
     fn admit(&mut self) {
@@ -145,7 +140,7 @@ impl Unit {
     fn sample(
         &mut self,
         year: u16,
-        differences: [Difference; ANALYTES],
+        differences: [i32; ANALYTES],
         misidentifications: u8,
     ) -> Result<Event, Refusal> {
         let same_stretch = self.samples > 0 && self.year == year;
@@ -153,7 +148,6 @@ impl Unit {
             return Err(Refusal::Full);
         }
         let own = self.contributions(&differences);
-        let marked = any_marked(&differences);
         if same_stretch {
             self.samples += 1;
             self.move_charts(&own);
@@ -165,16 +159,16 @@ impl Unit {
         }
         if self.breaks_a_window(misidentifications) {
             self.stage = Stage::Probation;
-            return Ok(Event::ProbationByWindows { marked });
+            return Ok(Event::ProbationByWindows);
         }
         if self.any_over() {
             self.stage = Stage::Probation;
-            return Ok(Event::ProbationByCharts { marked });
+            return Ok(Event::ProbationByCharts);
         }
-        Ok(Event::Sample { marked })
+        Ok(Event::Sample)
     }
 
-    fn contributions(&self, differences: &[Difference; ANALYTES]) -> Charts {
+    fn contributions(&self, differences: &[i32; ANALYTES]) -> Charts {
         let mut own = [0; MOST_CHARTS];
         match self.category {
             Category::Food => self.contribute(differences, &mut own),
@@ -184,8 +178,8 @@ impl Unit {
     }
 
     #[inline(always)]
-    fn contribute(&self, differences: &[Difference], own: &mut Charts) {
-        for (own, &Difference { d, .. }) in own.chunks_exact_mut(KINDS).zip(differences) {
+    fn contribute(&self, differences: &[i32], own: &mut Charts) {
+        for (own, &d) in own.chunks_exact_mut(KINDS).zip(differences) {
             let measure = self.measures[d.unsigned_abs() as usize];
             own.copy_from_slice(&[
                 (d - self.shift).clamp(-20, 20),

@@ -1,8 +1,7 @@
 //! Lists of lines from a seed, of either category. The fast unit goes along, so that the lists lead
-//! where they should: through sets, admissions, charts at their limits, differences at the cap,
-//! misses, misidentifications, full stretches and closing, with a look at the status here and there.
+//! where they should: through sets, admissions, charts at their limits, misses, misidentifications,
+//! full stretches and closing, with a look at the status here and there.
 
-mod cap;
 mod clock;
 mod disorder;
 mod fine;

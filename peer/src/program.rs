@@ -81,15 +81,6 @@ pub fn answer(unit: &mut fast::Unit, line: &[u8]) -> Answer {
     }
 }
 
-impl Answer {
-    pub fn text(&self) -> Vec<u8> {
-        let mut text = Vec::new();
-        write_answer(self, &mut text);
-        text
-    }
-}
-
-#[inline(always)]
 pub fn write_answer(answer: &Answer, text: &mut Vec<u8>) {
     match answer {
         Answer::Event(event) => write_event(*event, text),

@@ -1,7 +1,7 @@
 //! One value and one difference, outside any line: what the program `standard` answers.
 
 use crate::charts::{large_discrepancy, measure, variability, FOOD};
-use crate::difference::{difference, value, Derived, Difference};
+use crate::difference::{difference, value, Derived};
 use crate::food_line::{mean_fits, Product, ANALYTES};
 use crate::refused::Refusal;
 
@@ -9,8 +9,7 @@ const DIGITS: usize = 12;
 const HIGHEST_READING: u16 = 10_000;
 
 /// The answer to a row of 12 digits: product 1 byte, analyte 1, mean 2, reading 2, mean and
-/// reading in hundredths. It has s, d, the contributions P, N, V, D and 1 where the cap was applied,
-/// else 0, or `refused N`.
+/// reading in hundredths. It has s, d and the contributions P, N, V, D, or `refused N`.
 pub fn standardize(row: &[u8]) -> String {
     answer(row).unwrap_or_else(|refusal| format!("refused {}", refusal.number()))
 }
@@ -33,10 +32,9 @@ fn answer(row: &[u8]) -> Result<String, Refusal> {
         return Err(Refusal::Reading);
     }
     let s = value(product, analyte, mean, &Derived);
-    let Difference { d, marked } = difference(reading, mean, s);
+    let d = difference(reading, mean, s);
     let (p, n, v) = (FOOD.positive(d), FOOD.negative(d), variability(d));
-    let large = large_discrepancy(measure(d));
-    Ok(format!("{s} {d} {p} {n} {v} {large} {}", u8::from(marked)))
+    Ok(format!("{s} {d} {p} {n} {v} {}", large_discrepancy(measure(d))))
 }
 
 /// Up to four lowercase hexadecimal digits.

@@ -1,7 +1,6 @@
-//! The rule of "Stages" by which a study set passes, and its mark by request Five.
+//! The rule of "Stages" by which a study set passes.
 
 use crate::charts::measure;
-use crate::difference::{any_marked, Difference};
 use crate::food_line::ANALYTES;
 
 pub const SET: usize = 36;
@@ -40,20 +39,10 @@ pub fn analyte_passes(differences: &[i32]) -> bool {
     sums.pass()
 }
 
-/// What is found of a set.
-#[derive(Clone, Copy, Debug, PartialEq, Eq)]
-pub struct Judgement {
-    pub passed: bool,
-    /// Whether a judged difference is marked.
-    pub marked: bool,
-}
-
-/// What is found of a set of 36 lines, in which all four analytes are judged.
-pub fn judge(set: &[[Difference; ANALYTES]]) -> Judgement {
-    let passes = |analyte: usize| {
-        let own: Vec<i32> = set.iter().map(|line| line[analyte].d).collect();
+/// Whether a set of 36 lines passes.
+pub fn passes(set: &[[i32; ANALYTES]]) -> bool {
+    (0..ANALYTES).all(|analyte| {
+        let own: Vec<i32> = set.iter().map(|line| line[analyte]).collect();
         analyte_passes(&own)
-    };
-    let passed = (0..ANALYTES).all(passes);
-    Judgement { passed, marked: set.iter().any(|line| any_marked(line)) }
+    })
 }

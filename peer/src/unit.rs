@@ -3,11 +3,11 @@
 
 use crate::category::{Category, Kind};
 use crate::charts::{contributions, over, Contributions, Over};
-use crate::difference::{Derived, Difference};
+use crate::difference::Derived;
 use crate::food_line::ANALYTES;
 use crate::head::Head;
 use crate::refused::Refusal;
-use crate::study::{judge, Judgement, SET};
+use crate::study::{passes, SET};
 use crate::windows::any_broken;
 
 pub const LONGEST_STRETCH: usize = 999;
@@ -23,42 +23,38 @@ pub enum Stage {
     Closed,
 }
 
-/// A sample is marked if one of its differences is, a set if a judged one is.
 #[derive(Clone, Copy, Debug, PartialEq, Eq)]
 pub enum Event {
     Refused(Refusal),
-    Sample { marked: bool },
+    Sample,
     Missed,
     UnderWay(u8),
-    Passed { marked: bool },
-    Failed { marked: bool },
-    ProbationByCharts { marked: bool },
+    Passed,
+    Failed,
+    ProbationByCharts,
     ProbationByMisses,
-    ProbationByWindows { marked: bool },
+    ProbationByWindows,
 }
 
 impl Event {
-    /// A set's mark is not printed.
     pub fn bytes(self) -> [u8; 2] {
         match self {
             Event::Refused(refusal) => [0, refusal.number()],
-            Event::Sample { marked } => [1, u8::from(marked)],
+            Event::Sample => [1, 0],
             Event::Missed => [2, 0],
             Event::UnderWay(lines) => [3, lines],
-            Event::Passed { .. } => [4, 0],
-            Event::Failed { .. } => [5, 0],
-            Event::ProbationByCharts { marked } => [6, u8::from(marked)],
+            Event::Passed => [4, 0],
+            Event::Failed => [5, 0],
+            Event::ProbationByCharts => [6, 0],
             Event::ProbationByMisses => [7, 0],
-            Event::ProbationByWindows { marked } => [8, u8::from(marked)],
+            Event::ProbationByWindows => [8, 0],
         }
     }
 
     pub fn opens_probation(self) -> bool {
         matches!(
             self,
-            Event::ProbationByCharts { .. }
-                | Event::ProbationByMisses
-                | Event::ProbationByWindows { .. }
+            Event::ProbationByCharts | Event::ProbationByMisses | Event::ProbationByWindows
         )
     }
 }
@@ -74,7 +70,7 @@ pub struct Status {
 
 /// What an accepted line is.
 enum Accepted {
-    Study([Difference; ANALYTES]),
+    Study([i32; ANALYTES]),
     Sample { contributions: Contributions, misidentifications: u8 },
     Missed,
 }
@@ -128,16 +124,13 @@ impl Unit {
         Ok(Entry { head, accepted, event })
     }
 
-    fn study(&self, own: [Difference; ANALYTES]) -> Event {
+    fn study(&self, own: [i32; ANALYTES]) -> Event {
         let mut set = self.set_so_far();
         set.push(own);
-        if set.len() < SET {
-            return Event::UnderWay(set.len() as u8);
-        }
-        let Judgement { passed, marked } = judge(&set);
-        match passed {
-            true => Event::Passed { marked },
-            false => Event::Failed { marked },
+        match set.len() {
+            SET if passes(&set) => Event::Passed,
+            SET => Event::Failed,
+            lines => Event::UnderWay(lines as u8),
         }
     }
 
@@ -155,7 +148,7 @@ impl Unit {
     fn sample(
         &self,
         head: Head,
-        differences: &[Difference; ANALYTES],
+        differences: &[i32; ANALYTES],
         misidentifications: u8,
     ) -> Result<(Accepted, Event), Refusal> {
         let own = contributions(&differences[..self.category.analytes()], self.category.turns());
@@ -166,16 +159,15 @@ impl Unit {
         if stretch.len() == LONGEST_STRETCH {
             return Err(Refusal::Full);
         }
-        let marked = own.marked;
         stretch.push(own.clone());
         let mut counts = self.misidentifications();
         counts.push(misidentifications);
         let event = if any_broken(self.category.windows(), &counts) {
-            Event::ProbationByWindows { marked }
+            Event::ProbationByWindows
         } else if over(&stretch, self.category.turns()).is_empty() {
-            Event::Sample { marked }
+            Event::Sample
         } else {
-            Event::ProbationByCharts { marked }
+            Event::ProbationByCharts
         };
         Ok((Accepted::Sample { contributions: own, misidentifications }, event))
     }
@@ -199,7 +191,7 @@ impl Unit {
         for entry in self.entries.iter().rev() {
             match entry.event {
                 Event::UnderWay(_) => {}
-                Event::Failed { .. } => failed += 1,
+                Event::Failed => failed += 1,
                 event if !event.opens_probation() => return Stage::Accredited,
                 _ if failed == 0 => return Stage::Probation,
                 _ => return Stage::Closed,
@@ -210,7 +202,7 @@ impl Unit {
 
     /// The entries after the last admission, or all, from the last back.
     fn since_admission(&self) -> impl Iterator<Item = &Entry> {
-        self.entries.iter().rev().take_while(|entry| !matches!(entry.event, Event::Passed { .. }))
+        self.entries.iter().rev().take_while(|entry| entry.event != Event::Passed)
     }
 
     /// The years and contributions of the samples since admission, from the last back.
@@ -244,7 +236,7 @@ impl Unit {
     }
 
     /// The lines of the set under way.
-    fn set_so_far(&self) -> Vec<[Difference; ANALYTES]> {
+    fn set_so_far(&self) -> Vec<[i32; ANALYTES]> {
         let under_way = self.entries.iter().rev().map_while(|entry| match entry {
             Entry { accepted: Accepted::Study(own), event: Event::UnderWay(_), .. } => Some(*own),
             _ => None,

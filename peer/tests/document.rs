@@ -4,7 +4,7 @@ use peer::category::Category;
 use peer::charts::{
     contributions, highest_run, large_discrepancy, measure, variability, Run, FOOD,
 };
-use peer::difference::{difference, fourth_root, protein_power, value, Derived, Difference};
+use peer::difference::{difference, fourth_root, protein_power, value, Derived};
 use peer::food_line::{read, Product, Reading, MOISTURE, SALT};
 use peer::program::{stream, transcript};
 use peer::refused::Refusal;
@@ -45,24 +45,23 @@ fn e_protein_power() {
     assert_eq!(protein_power(1000), 199526);
 }
 
-fn difference_of(class: u8, analyte: usize, mean: u16, h: u16) -> Difference {
+fn d_of(class: u8, analyte: usize, mean: u16, h: u16) -> i32 {
     let product = Product::new(class).unwrap();
     difference(mean + h, mean, value(product, analyte, mean, &Derived))
 }
 
 #[test]
 fn f_moisture_of_other_meat() {
-    let own = difference_of(2, MOISTURE, 6000, 100);
-    let d = own.d;
+    let d = d_of(2, MOISTURE, 6000, 100);
     assert_eq!(d, 18);
     let all = [FOOD.positive(d), FOOD.negative(d), variability(d), large_discrepancy(measure(d))];
     assert_eq!(all, [14, -20, 9, -250]);
-    assert_eq!(contributions(&[own], &FOOD).charts, all);
+    assert_eq!(contributions(&[d], &FOOD), all);
 }
 
 #[test]
 fn g_salt() {
-    let [below, above] = [38, 39].map(|h| difference_of(2, SALT, 200, h).d);
+    let (below, above) = (d_of(2, SALT, 200, 38), d_of(2, SALT, 200, 39));
     assert_eq!((below, measure(below)), (25, 0));
     assert_eq!((above, measure(above)), (26, 385));
 }

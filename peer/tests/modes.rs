@@ -4,10 +4,8 @@ mod common;
 
 use common::{residue, streamed};
 use peer::category::Category;
-use peer::fast;
 use peer::lists::list;
-use peer::program::{lines, transcript};
-use peer::unit::{Event, Unit};
+use peer::program::transcript;
 
 fn assert_alike(category: Category, seed: u64, number: u64, piece: usize) {
     let input = list(category, seed, number);
@@ -41,19 +39,4 @@ fn window_lists() {
     for number in (0..500).filter(|number| [3, 4, 7].contains(&(number % 10))) {
         assert_alike(residue(4), 3, number, 4096);
     }
-}
-
-/// Their events too, by which a set's mark is told, which is not printed.
-#[test]
-fn events() {
-    let mut marked = 0;
-    for number in 0..60 {
-        let (mut slow, mut fast) = (Unit::new(Category::Food), fast::Unit::new(Category::Food));
-        for line in lines(&list(Category::Food, 3, number)) {
-            let event = slow.take(line);
-            assert_eq!(fast.take(line), event, "list {number}");
-            marked += usize::from(event == Event::Failed { marked: true });
-        }
-    }
-    assert!(marked > 0);
 }

@@ -3,7 +3,7 @@
 use peer::category::Category;
 use peer::charts::{contributions, highest_run, Run, RESIDUE};
 use peer::compound::Compound;
-use peer::difference::{residue_difference, Difference};
+use peer::difference::residue_difference;
 use peer::program::{read_back, transcript};
 use peer::refused::Refusal;
 use peer::residue_line::{read, Outcome};
@@ -15,7 +15,7 @@ fn compound(number: u8) -> Compound {
 /// d for a result so many thousandths above the comparison, for a compound with value 0.20 and for
 /// one with 0.25.
 fn both(h: i16) -> [i32; 2] {
-    [compound(16), compound(17)].map(|own| residue_difference(h, 0, own.value()).d)
+    [compound(16), compound(17)].map(|own| residue_difference(h, 0, own.value()))
 }
 
 #[test]
@@ -49,14 +49,12 @@ fn halves_go_away_from_zero() {
 
 #[test]
 fn the_cap() {
-    let d = |result: i16, comparison: i16, own: u8| {
-        residue_difference(result, comparison, compound(own).value()).d
-    };
-    assert_eq!(d(9999, -9999, 4), 999);
-    assert_eq!(d(9999, -9999, 19), 800);
-    assert_eq!(d(-9999, 9999, 4), -999);
-    assert_eq!(d(9989, -9980, 4), 998);
-    assert_eq!(d(9990, -9980, 4), 999);
+    let farthest = |own: Compound| residue_difference(9999, -9999, own.value());
+    assert_eq!(farthest(compound(4)), 999);
+    assert_eq!(farthest(compound(19)), 800);
+    assert_eq!(residue_difference(-9999, 9999, 200), -999);
+    assert_eq!(residue_difference(9989, -9980, 200), 998);
+    assert_eq!(residue_difference(9990, -9980, 200), 999);
 }
 
 #[test]
@@ -65,9 +63,8 @@ fn turning_points_of_p_and_n() {
     assert_eq!(p, [20, 20, 19, 1, 0, -1, -19, -20, -20]);
     let n = [-26, -25, -24, -6, -5, -4, 14, 15, 16].map(|d| RESIDUE.negative(d));
     assert_eq!(n, p);
-    let charts = |d: i32| contributions(&[Difference { d, marked: false }], &RESIDUE).charts;
-    assert_eq!(charts(18), [13, -20, 9, -250]);
-    assert_eq!(charts(-26), [-20, 20, 16, 135]);
+    assert_eq!(contributions(&[18], &RESIDUE), [13, -20, 9, -250]);
+    assert_eq!(contributions(&[-26], &RESIDUE), [-20, 20, 16, 135]);
 }
 
 /// Chart P's law alone.

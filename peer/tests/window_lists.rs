@@ -1,7 +1,7 @@
 //! The lists of a seed reach both of request Three's windows from every distance, and come to the
 //! other ends too.
 
-mod tally;
+use std::collections::BTreeMap;
 
 use peer::category::Category;
 use peer::compound::Compound;
@@ -10,10 +10,28 @@ use peer::lists::list;
 use peer::program::lines;
 use peer::residue_line::read;
 use peer::unit::Event;
-use tally::Tally;
 
 const SEED: u64 = 1;
 const LISTS: u64 = 2000;
+
+/// How often each thing came about.
+#[derive(Default)]
+struct Tally(BTreeMap<String, usize>);
+
+impl Tally {
+    fn count(&mut self, thing: String) {
+        *self.0.entry(thing).or_default() += 1;
+    }
+
+    fn times(&self, thing: &str) -> usize {
+        self.0.get(thing).copied().unwrap_or_default()
+    }
+
+    fn assert_often(&self, least: usize, thing: String) {
+        let times = self.times(&thing);
+        assert!(times >= least, "{thing}: {times}, in all {:#?}", self.0);
+    }
+}
 
 /// What a list has so far.
 #[derive(Default)]
@@ -101,7 +119,7 @@ fn tell(own: Compound, input: &[u8], tally: &mut Tally) {
         }
         story.samples.push((line.head.year, line.count));
         match event {
-            Event::ProbationByWindows { .. } => story.opened(!unit.status().over.is_empty(), tally),
+            Event::ProbationByWindows => story.opened(!unit.status().over.is_empty(), tally),
             _ if line.count > 0 => story.passed(tally),
             _ => {}
         }
@@ -115,7 +133,7 @@ fn both_windows_from_every_distance() {
     for number in 0..LISTS {
         tell(own, &list(Category::Residue(own), SEED, number), &mut tally);
     }
-    println!("{tally:#?}");
+    println!("{:#?}", tally.0);
     for event in ["06", "07", "08"] {
         tally.assert_often(100, format!("event {event}"));
     }

@@ -1,7 +1,6 @@
 // Reads rows of 12 digits on standard input: product, analyte, mean and reading in hundredths. Prints
-// for each the standardizing value, d, the contributions to P, N, V and D, and 1 where the cap was applied
-// to d or 0 where not; or its refusal: `standardize` run on rows whose answers were worked out
-// independently.
+// for each the standardizing value, d and the contributions to P, N, V and D, or its refusal:
+// `standardize` run on rows whose answers were worked out independently.
 
 ghost use Rattle.std.specs.Prelude.{◌≡◌, ◌<◌, length};
 ghost use Rattle.case_standard.specs.Answer.{DIGITS, pair_at, answer_of};
@@ -60,24 +59,13 @@ fn print_after(z: i32) {
     }
 }
 
-fn print_mark(marked: bool) {
-    if marked {
-        io::write_all(STDOUT_FILENO, b" 1");
-    } else {
-        io::write_all(STDOUT_FILENO, b" 0");
-    }
-}
-
 fn print_figures(r: Figures) {
-    let difference = r.difference;
-    let contributions = r.contributions;
     io::print_decimal(STDOUT_FILENO, r.value as u64);
-    print_after(difference.tenths);
-    print_after(contributions.p);
-    print_after(contributions.n);
-    print_after(contributions.v);
-    print_after(contributions.d);
-    print_mark(difference.marked);
+    print_after(r.difference);
+    print_after(r.p);
+    print_after(r.n);
+    print_after(r.v);
+    print_after(r.d);
 }
 
 fn print_answer(row: &[u8])

@@ -1,7 +1,7 @@
 -- How large increments, measures, contributions and differences can be, and that no limit is below 0. Assumes nothing.
 use mathlib.Core.Path.{◌≡◌}
 use mathlib.Core.Bool.{false, cond}
-use Prim.Native.Nat.{ℕ, zero, suc, ◌*◌, ◌-◌, ◌≤◌, min}
+use Prim.Native.Nat.{ℕ, zero, suc, ◌*◌, ◌-◌, ◌≤◌}
 use native.Mathlib.Nat.{le_of_suc-le-suc, div-lt_iff_lt-mul}
 use native.Mathlib.Omega.{arith}
 use lib.Dec.{ltb, lit≤}
@@ -12,9 +12,8 @@ use Rattle.laws.proofs.Cond.{cases}
 use Rattle.laws.proofs.Order.{zarith, minus, neg, canon}
 use Rattle.laws.proofs.Word.{abs, abs_neg, abs_minus}
 use Rattle.difference.specs.declared.constants.Constants.{Constants}
-use Rattle.difference.specs.declared.difference.Difference.{Difference}
 use Rattle.difference.specs.bounds.Numbers.{LARGEST, Moderate, AllModerate}
-use Rattle.difference.specs.Difference.{CAP, nearest, scaled_of}
+use Rattle.difference.specs.Difference.{CAP, nearest, size_of, scaled_of}
 use Rattle.difference.specs.Contribution.{food, residue, increment_of, contributions_of, larger, variable_of, measure_of, deviant_of, limit_of}
 
 -- between the turning points
@@ -63,9 +62,8 @@ pub residue_fits : Fits residue
 residue_fits = record { high = lit≤ tt; low = lit≤ tt; shift = lit≤ tt }
 
 -- contributions are moderate, whatever the difference
-pub moderate : (c : Constants) (x : Difference) → Fits c → AllModerate (contributions_of c x)
-moderate c x f =
-    let d = x.tenths in
+pub moderate : (c : Constants) (d : ℤ) → Fits c → AllModerate (contributions_of c d)
+moderate c d f =
     let less = neg_ℤ (pos c.shift) in
     let n = increment_of c.low c.high less d in
     record {
@@ -78,7 +76,7 @@ moderate c x f =
 -- a difference is at most CAP in size
 pub difference_small : (scale : ℕ) (h : ℤ) (s : ℕ) → nat_abs (scaled_of scale h s).tenths ≤ CAP
 difference_small scale (pos n) s = omega arith
-difference_small scale (negsuc n) s = omega (arith, abs_neg (pos (min CAP (nearest (scale * suc n) s))))
+difference_small scale (negsuc n) s = omega (arith, abs_neg (pos (size_of (scale * suc n) s)))
 
 pub limit_not_negative : (c : Constants) (k : ℕ) → pos 0 ≤ℤ limit_of c k
 limit_not_negative c zero = omega zarith

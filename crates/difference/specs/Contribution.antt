@@ -6,7 +6,6 @@ use Rattle.difference.specs.declared.category.Category.{Category}
 use Rattle.difference.specs.declared.category.Category.TheVariants.{Food, Residue}
 use Rattle.difference.specs.declared.constants.Constants.{Constants}
 use Rattle.difference.specs.declared.contribution.Contributions.{Contributions}
-use Rattle.difference.specs.declared.difference.Difference.{Difference}
 use Rattle.difference.specs.Difference.{nearest}
 
 -- the most analytes that a category has, and the charts of an analyte: 0 P, 1 N, 2 V, 3 D
@@ -61,16 +60,8 @@ measure_of size = cond (ltb size 25) 0 (nearest (10000 * (size - 25)) size)
 abbrev pub deviant_of : ℕ → ℤ
 deviant_of size = pos (measure_of size) -ℤ pos 250
 
--- Of a difference, by its tenths alone; document 02, request Five: the mark is carried along.
-abbrev pub contributions_of : Constants → Difference → Contributions
-contributions_of c d =
-    record {
-      p = positive_of c d.tenths;
-      n = negative_of c d.tenths;
-      v = variable_of (nat_abs d.tenths);
-      d = deviant_of (nat_abs d.tenths);
-      marked = d.marked;
-    }
+abbrev pub contributions_of : Constants → ℤ → Contributions
+contributions_of c d = record { p = positive_of c d; n = negative_of c d; v = variable_of (nat_abs d); d = deviant_of (nat_abs d) }
 
 -- the limits of the charts, numbered 0 P, 1 N, 2 V, 3 D
 abbrev pub limit_of : Constants → ℕ → ℤ

@@ -1,5 +1,5 @@
 -- Document 01, "Standardizing value and difference", from the mean to the standardizing value and the difference.
-use Rattle.std.specs.Prelude.{ℕ, suc, ◌+◌, ◌*◌, ◌/◌, ◌^◌, ◌≤◌, ◌<◌, min, Bool, true, false, cond, ◌&&◌, ◌≡◌, ◌↔◌, [], ◌∷◌, ℤ, pos, negsuc, neg_ℤ, nat_abs, ◌-ℤ◌, eqb, leb, ltb, get_or}
+use Rattle.std.specs.Prelude.{ℕ, suc, ◌+◌, ◌*◌, ◌/◌, ◌^◌, ◌≤◌, min, Bool, cond, ◌&&◌, [], ◌∷◌, ℤ, pos, negsuc, neg_ℤ, ◌-ℤ◌, eqb, leb, ltb, get_or}
 use Rattle.field.specs.Refused.{MOST, class_of, is_dry}
 use Rattle.difference.specs.declared.coefficient.Coefficient.{Coefficient}
 use Rattle.difference.specs.declared.coefficient.Coefficient.TheVariants.{Constant, P, Q}
@@ -76,31 +76,21 @@ distance reading mean = pos reading -ℤ pos mean
 
 -- what stands where nothing is standardized
 abbrev pub no_difference : Difference
-no_difference = record { tenths = pos 0; marked = false }
+no_difference = record { tenths = pos 0 }
 
 -- the largest size of a standardized difference, in tenths
 abbrev pub CAP : ℕ
 CAP = 999
 
--- The standardized difference of a size that is rounded and not yet capped, by its sign: capped at 999. Document 02, request Five: the mark says whether
--- the cap was applied, true exactly when that size is above 999.
-abbrev pub capped_of : Bool → ℕ → Difference
-capped_of negative size = record { tenths = cond negative (neg_ℤ (pos (min CAP size))) (pos (min CAP size)); marked = ltb CAP size }
+-- the size of the standardized difference, in tenths: the quotient to the nearest whole, capped at 999
+abbrev pub size_of : ℕ → ℕ → ℕ
+size_of size s = min CAP (nearest size s)
 
 -- The standardized difference d, which document 01 coins, of a distance h from what it is compared with, in tenths of the value s: `scale` times |h|
--- over s to the nearest whole, with the sign of h. Halves of the size go up, so those of d go away from 0. One definition for every category.
+-- over s, with the sign of h. Halves of the size go up, so those of d go away from 0. One definition for every category.
 abbrev pub scaled_of : ℕ → ℤ → ℕ → Difference
-scaled_of scale (pos n) s = capped_of false (nearest (scale * n) s)
-scaled_of scale (negsuc n) s = capped_of true (nearest (scale * suc n) s)
-
--- What the cap and the mark are, as a law that is proved, for every category: the size is the rounded one, at most 999, and the mark is true exactly when the
--- rounded, uncapped size is above 999. Proved as `cap_is` of proofs/DistanceLaws.
-pub record CapSays (rounded : ℕ) (d : Difference) : Type 0 where
-  pub size : nat_abs d.tenths ≡ min CAP rounded
-  pub mark : (d.marked ≡ true) ↔ (CAP < rounded)
-
-abbrev pub CapIs : Type 0
-CapIs = (scale : ℕ) (h : ℤ) (s : ℕ) → CapSays (nearest (scale * nat_abs h) s) (scaled_of scale h s)
+scaled_of scale (pos n) s = record { tenths = pos (size_of (scale * n) s) }
+scaled_of scale (negsuc n) s = record { tenths = neg_ℤ (pos (size_of (scale * suc n) s)) }
 
 -- food chemistry: |h| × 1,000,000 / s
 abbrev pub difference_of : ℤ → ℕ → Difference

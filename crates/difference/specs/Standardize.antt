@@ -1,8 +1,8 @@
 -- One reading on its own: document 01's rows 5 to 7 of "Refused", else its standardizing value, difference and contributions.
-use Rattle.std.specs.Prelude.{ℕ, Bool, cond, ◌||◌, eqb, leb, ltb}
+use Rattle.std.specs.Prelude.{ℕ, Bool, cond, ◌||◌, ℤ, eqb, leb, ltb}
 use Rattle.rows.specs.Refusal.{PRODUCT, MEAN, READING}
 use Rattle.field.specs.Refused.{MOST, LEAST_PROTEIN, LEAST_BEEF_FAT, class_of, product_row}
-use Rattle.difference.specs.declared.difference.Difference.{Difference}
+use Rattle.difference.specs.declared.contribution.Contributions.{Contributions}
 use Rattle.difference.specs.declared.standardize.Figures.{Figures}
 use Rattle.difference.specs.declared.standardize.Standardized.{Standardized}
 use Rattle.difference.specs.declared.standardize.Standardized.TheVariants.{Refused, Given}
@@ -21,11 +21,15 @@ bad_mean class analyte m = ltb m (least_mean class analyte) || ltb MOST m
 abbrev pub bad_reading : ℕ → Bool
 bad_reading reading = ltb MOST reading
 
-abbrev pub figures_by : ℕ → Difference → Figures
-figures_by s d = record { value = s; difference = d; contributions = contributions_of food d }
+abbrev pub figures_by : ℕ → ℤ → Contributions → Figures
+figures_by s d c = record { value = s; difference = d; p = c.p; n = c.n; v = c.v; d = c.d }
+
+abbrev pub figures_from : ℕ → ℤ → Figures
+figures_from s d = figures_by s d (contributions_of food d)
 
 abbrev pub figures_of : ℕ → ℕ → ℕ → ℕ → Figures
-figures_of product analyte mean reading = let s = value_of product analyte mean in figures_by s (difference_of (distance reading mean) s)
+figures_of product analyte mean reading =
+    let s = value_of product analyte mean in figures_from s (difference_of (distance reading mean) s).tenths
 
 -- the first row that fits; an analyte that no line has counts as row 5
 unfoldable pub standardized_of : ℕ → ℕ → ℕ → ℕ → Standardized

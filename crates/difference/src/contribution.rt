@@ -5,16 +5,14 @@ ghost use Rattle.difference.specs.Contribution.{increment_of, variable_of, measu
 use crate::constants::Constants;
 use crate::difference::Difference;
 
-// What is added to the four charts of an analyte, in tenths, for `d` in ten-thousandths: the
-// regulation's increments, for N with its sign turned. The mark is that of the difference; no chart
-// goes by it.
+// What is added to the four charts of an analyte: the regulation's increments, for N with its sign
+// turned.
 #[derive(Drop)]
 pub struct Contributions {
     pub p: i32,
     pub n: i32,
     pub v: i32,
     pub d: i32,
-    pub marked: bool,
 }
 
 // A signed number without its sign.
@@ -91,7 +89,7 @@ const ALLOWANCE: i32 = 250;
 // A difference's contributions to its analyte's four charts: P and N, systematic difference above and
 // below 0, V, variability, and D, large deviations.
 pub fn contribute(c: Constants, d: Difference) -> Contributions
-    ensures { result ≡ contributions_of c d }
+    ensures { result ≡ contributions_of c d.tenths }
 {
     let shift = c.shift as i32;
     let size = size(d.tenths);
@@ -101,7 +99,6 @@ pub fn contribute(c: Constants, d: Difference) -> Contributions
         n: -increment(d.tenths, c.low, c.high, -shift),
         v: variable(size),
         d: measure(size) as i32 - ALLOWANCE,
-        marked: d.marked,
     }
 }
 

@@ -1,7 +1,7 @@
 // From a reading's distance from the mean to the standardized difference, and what that shares with a residue's. Document 01,
 // "Standardizing value and difference".
-ghost use Rattle.std.specs.Prelude.{◌≡◌, cond, ◌^◌, ◌<◌, ◌≤◌, min, pos, neg_ℤ, nat_abs};
-ghost use Rattle.difference.specs.Difference.{CAP, nearest, distance, capped_of, difference_of};
+ghost use Rattle.std.specs.Prelude.{◌≡◌, cond, ◌^◌, ◌<◌, ◌≤◌, pos, neg_ℤ, nat_abs};
+ghost use Rattle.difference.specs.Difference.{CAP, distance, size_of, difference_of};
 
 use crate::difference::Difference;
 
@@ -15,38 +15,26 @@ fn apart(a: u16, b: u16) -> u16
     if a < b { b - a } else { a - b }
 }
 
-// A size over the standardizing value `s`, to the nearest whole.
-pub fn scaled(size: u64, s: u32) -> u64
+// A size over the standardizing value `s`, to the nearest whole, capped.
+pub fn scaled(size: u64, s: u32) -> u16
     requires { (size < 2 ^ 48) × (0 < s) }
-    ensures { result ≡ nearest size s }
+    ensures { result ≡ size_of size s }
 {
-    (2 * size + s as u64) / (2 * s as u64)
-}
-
-// A size, at most the largest.
-fn held(size: u64) -> u16
-    ensures { result ≡ min CAP size }
-{
-    if size < CAP as u64 { size as u16 } else { CAP }
+    let nearest = (2 * size + s as u64) / (2 * s as u64);
+    if nearest < CAP as u64 {
+        nearest as u16
+    } else {
+        CAP
+    }
 }
 
 // A size with its sign.
-fn signed(size: u16, negative: bool) -> i32
+pub fn signed(size: u16, negative: bool) -> i32
     requires { size ≤ CAP }
     ensures { result ≡ cond negative (neg_ℤ (pos size)) (pos size) }
 {
     let z = size as i32;
     if negative { -z } else { z }
-}
-
-// The difference of a rounded size and its sign, marked where the cap is applied.
-pub fn capped(size: u64, negative: bool) -> Difference
-    ensures { result ≡ capped_of negative size }
-{
-    Difference {
-        tenths: signed(held(size), negative),
-        marked: size > CAP as u64,
-    }
 }
 
 // Ten-millionths, in which the value is, times ten for tenths, to a hundredth.
@@ -56,8 +44,10 @@ pub fn standardized(reading: u16, mean: u16, s: u32) -> Difference
     requires { 0 < s }
     ensures { result ≡ difference_of (distance reading mean) s }
 {
-    capped(
-        scaled(SCALE * apart(reading, mean) as u64, s),
-        reading < mean,
-    )
+    Difference {
+        tenths: signed(
+            scaled(SCALE * apart(reading, mean) as u64, s),
+            reading < mean,
+        ),
+    }
 }

@@ -1,10 +1,10 @@
 // The standardized difference of a residue, from the logs. Document 02, request One.
-ghost use Rattle.std.specs.Prelude.{◌≡◌};
+ghost use Rattle.std.specs.Prelude.{◌≡◌, ℕ};
 ghost use Rattle.difference.specs.Residue.{residue_value, residue_difference};
 
 use crate::contribution::size;
 use crate::difference::Difference;
-use crate::distance::{capped, scaled};
+use crate::distance::{scaled, signed};
 
 // The last compound with the first value, and the two values, in thousandths.
 const LAST_OF_FIRST: u8 = 16;
@@ -32,8 +32,10 @@ pub fn residue_difference(compound: u8, comparison: i16, res: i16) -> Difference
     ensures { result ≡ residue_difference compound comparison res }
 {
     let h = res as i32 - comparison as i32;
-    capped(
-        scaled(TENTHS * size(h) as u64, residue_value(compound)),
-        h < 0,
-    )
+    Difference {
+        tenths: signed(
+            scaled(TENTHS * size(h) as u64, residue_value(compound)),
+            h < 0,
+        ),
+    }
 }

@@ -5,20 +5,22 @@ ghost use Rattle.difference.specs.Standardize.{least_mean, bad_mean, figures_of,
 ghost use Rattle.difference.specs.bounds.Means.{GoodMean};
 
 use crate::constants::FOOD;
-use crate::contribution::{Contributions, contribute};
-use crate::difference::Difference;
+use crate::contribution::contribute;
 use crate::distance::standardized;
 use crate::value::value;
 use field::{LEAST_BEEF_FAT, LEAST_PROTEIN, MOST, product_row};
 use rows::refusal::{MEAN, PRODUCT, READING};
 
-// What a reading comes to: the value in ten-millionths of a percent, the difference with its mark, and
-// what it contributes.
+// What a reading comes to: the value in ten-millionths of a percent, the difference in tenths, and the
+// contributions, in tenths, for `d` in ten-thousandths.
 #[derive(Drop)]
 pub struct Figures {
     pub value: u32,
-    pub difference: Difference,
-    pub contributions: Contributions,
+    pub difference: i32,
+    pub p: i32,
+    pub n: i32,
+    pub v: i32,
+    pub d: i32,
 }
 
 #[derive(Drop)]
@@ -51,11 +53,15 @@ fn fill(product: u8, analyte: u8, mean: u16, reading: u16) -> Figures
     ensures { result ≡ figures_of product analyte mean reading }
 {
     let s = value(product, analyte, mean);
-    let difference = standardized(reading, mean, s);
+    let d = standardized(reading, mean, s);
+    let c = contribute(FOOD, d);
     Figures {
         value: s,
-        difference,
-        contributions: contribute(FOOD, difference),
+        difference: d.tenths,
+        p: c.p,
+        n: c.n,
+        v: c.v,
+        d: c.d,
     }
 }
 

@@ -3,5 +3,4 @@ pub mod Table
 pub mod Witness
 pub mod Residue
 pub mod Windows
-pub mod Marked
 pub mod Program

@@ -29,7 +29,6 @@ use Rattle.unit.specs.Take.{ACCREDITED, CLOSED, new_of, made_of, taken_in, taken
 use Rattle.reply.specs.declared.event.Event.TheVariants.{Refused}
 use Rattle.reply.specs.declared.report.Report.{Report}
 use Rattle.unit.proofs.Claimed.{claim_holds}
-use Rattle.examples.specs.Table.{plain}
 
 -- ---- the lines
 
@@ -40,25 +39,21 @@ compound = 4
 abbrev pub category : Category
 category = Residue compound
 
--- A line by its comparison log, misidentification count, year, month, days, compound, tag and result log.
-abbrev pub compared_line : ℤ → ℕ → ℕ → ℕ → ℕ → ℕ → ℕ → ℤ → List ℕ
-compared_line comparison count year month days of tag result = digits_of (bytes_in (record {
+-- A line by its misidentification count, year, month, days, compound, tag and result log. The comparison log is -0.500.
+abbrev pub counted_line : ℕ → ℕ → ℕ → ℕ → ℕ → ℕ → ℤ → List ℕ
+counted_line count year month days of tag result = digits_of (bytes_in (record {
   kind = RESIDUE_KIND;
   year = year;
   month = month;
   days = days;
   compound = of;
-  comparison = comparison;
+  comparison = neg_ℤ (pos 500);
   tag = tag;
   result = result;
   count = count;
 }))
 
--- one whose comparison log is -0.500
-abbrev pub counted_line : ℕ → ℕ → ℕ → ℕ → ℕ → ℕ → ℤ → List ℕ
-counted_line = compared_line (neg_ℤ (pos 500))
-
--- and with no misidentification
+-- one with no misidentification
 abbrev pub line_with : ℕ → ℕ → ℕ → ℕ → ℕ → ℤ → List ℕ
 line_with = counted_line 0
 
@@ -109,12 +104,12 @@ pub record Residues : Type 0 where
   -- 0.20 up to 16, else 0.25; halves away from zero; capped
   pub halves : (standardized 16 (pos 10) ≡ pos 1) × (standardized 16 (neg_ℤ (pos 10)) ≡ neg_ℤ (pos 1)) × (standardized 16 (pos 9) ≡ pos 0)
   pub values : (standardized 16 (pos 1000) ≡ pos 50) × (standardized 17 (pos 1000) ≡ pos 40) × (standardized 19 (pos 1000) ≡ pos 40)
-  pub cap : residue_difference 4 (neg_ℤ (pos 9999)) (pos 9999) ≡ record { tenths = pos 999; marked = true }
+  pub cap : (residue_difference 4 (neg_ℤ (pos 9999)) (pos 9999)).tenths ≡ pos 999
   -- P and N turn at 1.5 and 2.5 and use 0.5; V and D are food's
-  pub turns : (contributions_of residue (plain (pos 16)) ≡ record { p = pos 11; n = neg_ℤ (pos 20); v = pos 7; d = neg_ℤ (pos 250); marked = false })
-      × (contributions_of residue (plain (pos 15)) ≡ record { p = pos 10; n = neg_ℤ (pos 20); v = pos 6; d = neg_ℤ (pos 250); marked = false })
-      × (contributions_of residue (plain (neg_ℤ (pos 26))) ≡ record { p = neg_ℤ (pos 20); n = pos 20; v = pos 16; d = pos 135; marked = false })
-      × (contributions_of residue (plain (neg_ℤ (pos 14))) ≡ record { p = neg_ℤ (pos 19); n = pos 9; v = pos 5; d = neg_ℤ (pos 250); marked = false })
+  pub turns : (contributions_of residue (pos 16) ≡ record { p = pos 11; n = neg_ℤ (pos 20); v = pos 7; d = neg_ℤ (pos 250) })
+      × (contributions_of residue (pos 15) ≡ record { p = pos 10; n = neg_ℤ (pos 20); v = pos 6; d = neg_ℤ (pos 250) })
+      × (contributions_of residue (neg_ℤ (pos 26)) ≡ record { p = neg_ℤ (pos 20); n = pos 20; v = pos 16; d = pos 135 })
+      × (contributions_of residue (neg_ℤ (pos 14)) ≡ record { p = neg_ℤ (pos 19); n = pos 9; v = pos 5; d = neg_ℤ (pos 250) })
   -- P and N of 20, 20, 8 end at their limit and are not over; of 20, 20, 9 they are
   pub limits : (over_on 0 (pos 20 ∷ pos 20 ∷ pos 8 ∷ []) ≡ false) × (over_on 0 (pos 20 ∷ pos 20 ∷ pos 9 ∷ []) ≡ true)
       × (over_on 1 (pos 20 ∷ pos 20 ∷ pos 8 ∷ []) ≡ false) × (over_on 1 (pos 20 ∷ pos 20 ∷ pos 9 ∷ []) ≡ true)

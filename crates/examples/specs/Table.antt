@@ -1,5 +1,5 @@
 -- Document 01, "Figures for the table of examples": theorems about the rules, held in one table and proved together.
-use Rattle.std.specs.Prelude.{ℕ, ◌≡◌, refl, Bool, true, false, List, [], ◌∷◌, ◌++◌, map, ℤ, pos, neg_ℤ, length, replicate}
+use Rattle.std.specs.Prelude.{ℕ, ◌≡◌, refl, Bool, true, false, List, [], ◌∷◌, ◌++◌, ℤ, pos, neg_ℤ, length, replicate}
 use Rattle.std.specs.Float.{binary32}
 use Rattle.std.specs.Float.Ieee.{of_bits}
 use Rattle.grounds.specs.Chart.{next_value, next_first, over, value_after, first_after}
@@ -8,16 +8,11 @@ use Rattle.field.specs.Refused.{reading_row}
 use Rattle.difference.specs.Contribution.{food, limit_of, increment_of, variable_of, measure_of, contributions_of}
 use Rattle.difference.specs.Difference.{power_of, root_of, salt, coefficient_for, value_of, difference_of}
 use Rattle.difference.specs.Largest.{root_from}
-use Rattle.difference.specs.declared.difference.Difference.{Difference}
 use Rattle.study.specs.Study.{sums_of, passes_of}
 
--- a difference that is not marked
-abbrev pub plain : ℤ → Difference
-plain z = record { tenths = z; marked = false }
-
 -- the standardized difference d of a reading h hundredths above the mean
-abbrev pub standardized : ℕ → ℕ → ℕ → ℕ → Difference
-standardized product analyte mean h = difference_of (pos h) (value_of product analyte mean)
+abbrev pub standardized : ℕ → ℕ → ℕ → ℕ → ℤ
+standardized product analyte mean h = (difference_of (pos h) (value_of product analyte mean)).tenths
 
 -- chart P alone, after a stretch's contributions
 abbrev pub over_p : List ℤ → Bool
@@ -25,7 +20,7 @@ over_p xs = over (limit_of food 0) (value_after xs)
 
 -- whether a set of these differences of one analyte passes
 abbrev pub set_of : List ℤ → Bool
-set_of ds = passes_of (sums_of (map plain ds))
+set_of ds = passes_of (sums_of ds)
 
 pub record Table : Type 0 where
   -- 3e000000 is 13 hundredths
@@ -40,10 +35,10 @@ pub record Table : Type 0 where
   -- p for T = 10 is 10000, for T = 1000 it is 199526
   pub E : (power_of 10 ≡ 10000) × (power_of 1000 ≡ 199526)
   -- class 2 moisture, h = 100, whatever the mean: d = 18; contributions P 14, N -20, V 9, D -250
-  pub F : (m : ℕ) → (value_of 2 0 m ≡ 5700000) × (standardized 2 0 m 100 ≡ plain (pos 18))
-      × (contributions_of food (plain (pos 18)) ≡ record { p = pos 14; n = neg_ℤ (pos 20); v = pos 9; d = neg_ℤ (pos 250); marked = false })
+  pub F : (m : ℕ) → (value_of 2 0 m ≡ 5700000) × (standardized 2 0 m 100 ≡ pos 18)
+      × (contributions_of food (pos 18) ≡ record { p = pos 14; n = neg_ℤ (pos 20); v = pos 9; d = neg_ℤ (pos 250) })
   -- salt M = 200: h = 38 gives d = 25, measure 0; h = 39 gives 26 and 385
-  pub G : (standardized 2 3 200 38 ≡ plain (pos 25)) × (measure_of 25 ≡ 0) × (standardized 2 3 200 39 ≡ plain (pos 26)) × (measure_of 26 ≡ 385)
+  pub G : (standardized 2 3 200 38 ≡ pos 25) × (measure_of 25 ≡ 0) × (standardized 2 3 200 39 ≡ pos 26) × (measure_of 26 ≡ 385)
   -- P of 20, 20, 12 ends at 52, not over; 20, 20, 13 is over, run 1 to 3
   pub H : let xs = pos 20 ∷ pos 20 ∷ pos 12 ∷ [] in let ys = pos 20 ∷ pos 20 ∷ pos 13 ∷ [] in
       (value_after xs ≡ pos 52) × (over_p xs ≡ false) × (over_p ys ≡ true) × (first_after ys ≡ 1) × (length ys ≡ 3)

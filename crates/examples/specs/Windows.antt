@@ -67,27 +67,27 @@ events ls = map (λ (x : Step). x.event) (history category ls)
 
 pub record Windows : Type 0 where
   -- a missed line's count counts nothing; a first sample with two breaks at once
-  pub first_events : events by_first ≡ Missed ∷ ByMisidentifications false ∷ []
+  pub first_events : events by_first ≡ Missed ∷ ByMisidentifications ∷ []
   -- the second of two; it is named by the event, and by the status no chart and no misses are; from then on a line is refused with 8
-  pub two_events : events by_two ≡ Sample false ∷ Missed ∷ ByMisidentifications false ∷ []
+  pub two_events : events by_two ≡ Sample ∷ Missed ∷ ByMisidentifications ∷ []
   pub two_counts : counts (entries by_two) ≡ 1 ∷ 1 ∷ []
   pub two_status : ((shown by_two).stage ≡ 3) × ((shown by_two).samples ≡ 2) × ((shown by_two).mask ≡ 0) × ((shown by_two).misses ≡ false)
   pub two_after : (taken_of (replay category by_two) (even 2013 4 0)).event ≡ Refused 8
   -- so, by the claim, there is a window with too many
   pub two_window : Misidentified (entries by_two)
   -- the third in eight, across a January: the stretch is new, the window is not
-  pub eight_events : events by_eight ≡ replicate 7 (Sample false) ++ ByMisidentifications false ∷ []
+  pub eight_events : events by_eight ≡ replicate 7 Sample ++ ByMisidentifications ∷ []
   pub eight_status : ((shown by_eight).stage ≡ 3) × ((shown by_eight).samples ≡ 4) × ((shown by_eight).mask ≡ 0) × ((shown by_eight).misses ≡ false)
   pub eight_window : Misidentified (entries by_eight)
   -- event 08 in place of 06: charts 1 (N) and 2 (V) are over by the same sample, and named all the same
-  pub both_events : events by_both ≡ Sample false ∷ Sample false ∷ ByMisidentifications false ∷ []
+  pub both_events : events by_both ≡ Sample ∷ Sample ∷ ByMisidentifications ∷ []
   pub both_status : ((shown by_both).stage ≡ 3) × ((shown by_both).samples ≡ 3) × ((shown by_both).mask ≡ 6) × ((shown by_both).misses ≡ false)
   pub both_shown : shown_at (shown by_both) 1 ≡ record { over = true; first = 1; last = 3; value = pos 60 }
   pub both_exist : Misidentified (entries by_both) × SomeRun (limit residue) (entries by_both) 1
   -- none: one and one eight samples apart, and with a third between them
-  pub apart_events : events apart ≡ replicate 9 (Sample false)
+  pub apart_events : events apart ≡ replicate 9 Sample
   pub apart_none : (opened apart ≡ false) × (Misidentified (entries apart) → ⊥)
-  pub three_events : events three_apart ≡ replicate 9 (Sample false)
+  pub three_events : events three_apart ≡ replicate 9 Sample
   pub three_none : (opened three_apart ≡ false) × (Misidentified (entries three_apart) → ⊥)
 
 pub windows : Windows

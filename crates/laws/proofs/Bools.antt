@@ -24,10 +24,3 @@ either false = inr refl
 pub and_fails : (a b : Bool) → a ≡ true → (a && b) ≡ false → b ≡ false
 and_fails true b p e = e
 and_fails false b p e = absurd (false≢true p)
-
--- the middle two of four parts change places
-pub or_swap : (a b c d : Bool) → ((a || b) || (c || d)) ≡ ((a || c) || (b || d))
-or_swap true b c d = refl
-or_swap false true true d = refl
-or_swap false true false d = refl
-or_swap false false c d = refl

@@ -9,7 +9,7 @@ use native.Mathlib.Numerals.{add-one}
 use native.Mathlib.Omega.{arith}
 use lib.ListN.{length, get_or, set}
 use Rattle.laws.specs.Each.{each_below, any_below, all_below}
-use Rattle.laws.proofs.Bools.{and_both, either, or_either, or_neither, or_swap}
+use Rattle.laws.proofs.Bools.{and_both, either, or_either, or_neither}
 
 module _ {A : Type 0} where
   pub each_length : (n : ℕ) (f : ℕ → A → A) (xs : List A) → length (each_below n f xs) ≡ length xs
@@ -61,16 +61,6 @@ any_none (suc n) f e i h =
 pub none_any : (n : ℕ) (f : ℕ → Bool) → ((i : ℕ) → i < n → f i ≡ false) → any_below n f ≡ false
 none_any zero f e = refl
 none_any (suc n) f e = rw (none_any n f (λ i h. e i (omega arith)), e n (omega arith))
-
--- tests that agree below n
-pub any_same : (n : ℕ) (f h : ℕ → Bool) → ((i : ℕ) → i < n → f i ≡ h i) → any_below n f ≡ any_below n h
-any_same zero f h e = refl
-any_same (suc n) f h e = ap₂ (λ (a b : Bool). a || b) (any_same n f h (λ i k. e i (omega arith))) (e n (omega arith))
-
--- one of two tests holds somewhere exactly where the one or the other does
-pub any_or : (n : ℕ) (f h : ℕ → Bool) → any_below n (λ (i : ℕ). f i || h i) ≡ (any_below n f || any_below n h)
-any_or zero f h = refl
-any_or (suc n) f h = ap (λ (a : Bool). a || (f n || h n)) (any_or n f h) ∙ or_swap (any_below n f) (any_below n h) (f n) (h n)
 
 search_below : (n : ℕ) (f : ℕ → Bool) → any_below n f ≡ true → (i : ℕ) × (i < n) × (f i ≡ true)
 search_below zero f e = absurd (true≢false (sym e))

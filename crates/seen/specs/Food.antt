@@ -61,11 +61,11 @@ seen_with ds r =
 abbrev pub seen_of : Record → Seen
 seen_of r = seen_with (by_analyte difference_for r) r
 
--- `see_record` takes every record, also one that no line holds: its differences are those that `standardize` gives, 0 and unmarked where it refuses. Of a record that was
+-- `see_record` takes every record, also one that no line holds: its differences are those that `standardize` gives, 0 where it refuses. Of a record that was
 -- read it refuses none, and this is `seen_of`: clause `read` of `see_record`.
 abbrev pub difference_in : Standardized → Difference
 difference_in (Refused n) = no_difference
-difference_in (Given f) = f.difference
+difference_in (Given f) = record { tenths = f.difference }
 
 -- the difference in the answer of `standardize`
 abbrev pub answer_for : ℕ → ℕ → ℕ → Reading → Difference

@@ -10,7 +10,7 @@ ghost use Rattle.seen.specs.Sight.{sight_in};
 use crate::date::{is_late, month_number};
 use crate::{Seen, Sight, see_nothing};
 use difference::constants::ANALYTES;
-use difference::difference::{Difference, NO_DIFFERENCE};
+use difference::difference::Difference;
 use difference::standardize::{Standardized, standardize};
 use field::STUDY;
 use food_line::record::{Amount, Read, Reading, Record};
@@ -48,15 +48,17 @@ fn hundredths_in(reading: Reading) -> u16
     n
 }
 
-// The difference of a reading, 0 and unmarked where `standardize` refuses.
+// The difference of a reading, 0 where `standardize` refuses.
 fn difference(product: u8, analyte: u8, mean: u16, reading: Reading) -> Difference
     ensures { result ≡ answer_for product analyte mean reading }
 {
     let Standardized::Given(figures) = standardize(product, analyte, mean, hundredths_in(reading))
     else {
-        return NO_DIFFERENCE;
+        return Difference { tenths: 0 };
     };
-    figures.difference
+    Difference {
+        tenths: figures.difference,
+    }
 }
 
 // The differences of the four analytes.

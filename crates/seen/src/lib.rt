@@ -8,7 +8,7 @@ ghost use Rattle.seen.specs.Sight.{nothing, sight_of};
 
 use difference::category::Category;
 use difference::constants::ANALYTES;
-use difference::difference::{Difference, NO_DIFFERENCE};
+use difference::difference::Difference;
 use food::see_food;
 use residue::see_residue;
 
@@ -36,13 +36,14 @@ pub struct Sight {
 fn see_nothing() -> Seen
     ensures { result ≡ nothing }
 {
+    let none = Difference { tenths: 0 };
     Seen {
         study: false,
         year: 0,
         month: 0,
         missed: false,
         count: 0,
-        differences: [NO_DIFFERENCE; ANALYTES],
+        differences: [none; ANALYTES],
     }
 }
 

@@ -7,7 +7,7 @@ ghost use Rattle.seen.specs.Sight.{sight_in};
 
 use crate::date::{is_late, month_number};
 use crate::{Seen, Sight, see_nothing};
-use difference::difference::{Difference, NO_DIFFERENCE};
+use difference::difference::Difference;
 use difference::residue::residue_difference;
 use residue_line::record::{Read, Record, ResultLog};
 
@@ -21,13 +21,13 @@ fn is_lost(res: ResultLog) -> bool
     }
 }
 
-// The difference of a result, 0 and unmarked where it is lost.
+// The difference of a result, 0 where it is lost.
 fn difference(compound: u8, comparison: i16, res: ResultLog) -> Difference
     ensures { result ≡ difference_for compound comparison res }
 {
     match res {
         ResultLog::Log(log) => residue_difference(compound, comparison, log),
-        ResultLog::Lost => NO_DIFFERENCE,
+        ResultLog::Lost => Difference { tenths: 0 },
     }
 }
 
@@ -36,11 +36,12 @@ fn see_record(r: Record) -> Seen
     ensures { result ≡ seen_of r }
 {
     let result = r.result;
+    let none = Difference { tenths: 0 };
     let differences = [
         difference(r.compound, r.comparison, result),
-        NO_DIFFERENCE,
-        NO_DIFFERENCE,
-        NO_DIFFERENCE,
+        none,
+        none,
+        none,
     ];
     Seen {
         study: false,

@@ -6,11 +6,10 @@ use Prim.Native.Nat.{ℕ, zero, suc, ◌+◌, ◌*◌, ◌-◌, ◌≤◌}
 use native.Mathlib.Nat.{mul-add, add-mul, mul_comm, mul-le-mul, le_of_mul-le-mul_left}
 use native.Mathlib.Omega.{arith}
 use lib.Dec.{leb}
-use lib.IntN.{nat_abs}
+use lib.IntN.{ℤ, nat_abs}
 use lib.ListN.{length}
 use borrow.Author.Tests.{leb-true, leb-false}
 use Rattle.laws.proofs.Word.{abs_plus}
-use Rattle.difference.specs.declared.difference.Difference.{Difference}
 use Rattle.study.specs.Study.{SET, sums_of, spread_of}
 
 square_of_sum : (a b : ℕ) → (a + b) * (a + b) ≡ a * a + (2 * (a * b) + b * b)
@@ -45,14 +44,14 @@ one_more : (n a b q : ℕ) → a * a ≤ n * q → (a + b) * (a + b) ≤ suc n *
 one_more n a b q h = omega (arith, square_of_sum a b, crossed n a b q h, add-mul n 1 (q + b * b), mul-add n q (b * b))
 
 -- the square of the sum of any differences is at most their number times the sum of their squares
-pub spread_whole : (ds : List Difference) → nat_abs (sums_of ds).s * nat_abs (sums_of ds).s ≤ length ds * (sums_of ds).q
+pub spread_whole : (ds : List ℤ) → nat_abs (sums_of ds).s * nat_abs (sums_of ds).s ≤ length ds * (sums_of ds).q
 unfolding sums_of
 spread_whole [] = omega arith
 spread_whole (d ∷ ds) =
-    let more = abs_plus (sums_of ds).s d.tenths in
+    let more = abs_plus (sums_of ds).s d in
     omega
-    (arith, mul-le-mul more more, one_more (length ds) (nat_abs (sums_of ds).s) (nat_abs d.tenths) (sums_of ds).q (spread_whole ds))
+    (arith, mul-le-mul more more, one_more (length ds) (nat_abs (sums_of ds).s) (nat_abs d) (sums_of ds).q (spread_whole ds))
 
 -- V of a set and S² are 36Q
-pub spread_is : (ds : List Difference) → length ds ≡ SET → spread_of (sums_of ds) + nat_abs (sums_of ds).s * nat_abs (sums_of ds).s ≡ SET * (sums_of ds).q
+pub spread_is : (ds : List ℤ) → length ds ≡ SET → spread_of (sums_of ds) + nat_abs (sums_of ds).s * nat_abs (sums_of ds).s ≡ SET * (sums_of ds).q
 spread_is ds e = omega (arith, rw e at (spread_whole ds))

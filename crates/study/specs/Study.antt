@@ -1,25 +1,23 @@
 -- Document 01, "Stages": a set passes if for each analyte, with S the sum of d, Q of d squared, V = 36Q - S², and G the sum of the measures,
 -- 5|S| ≤ 1314; 2601 × V ≤ 3500 × (1314 - 5|S|)²; V ≤ 166,635; G < 18,000.
-use Rattle.std.specs.Prelude.{ℕ, ◌+◌, ◌*◌, ◌-◌, Bool, false, ◌&&◌, ◌||◌, leb, ltb, List, [], ◌∷◌, pos, nat_abs, ◌+ℤ◌}
+use Rattle.std.specs.Prelude.{ℕ, ◌+◌, ◌*◌, ◌-◌, Bool, ◌&&◌, leb, ltb, List, [], ◌∷◌, ℤ, pos, nat_abs, ◌+ℤ◌}
 use Rattle.study.specs.declared.Sums.{Sums}
 use Rattle.difference.specs.Contribution.{measure_of}
-use Rattle.difference.specs.declared.difference.Difference.{Difference}
 
 abbrev pub no_sums : Sums
-no_sums = record { s = pos 0; q = 0; g = 0; marked = false }
+no_sums = record { s = pos 0; q = 0; g = 0 }
 
--- one more difference; document 02, request Five: the sums are marked where one of the differences is
-abbrev pub added_of : Sums → Difference → Sums
+-- one more difference
+abbrev pub added_of : Sums → ℤ → Sums
 added_of sums d =
     record {
-      s = sums.s +ℤ d.tenths;
-      q = sums.q + nat_abs d.tenths * nat_abs d.tenths;
-      g = sums.g + measure_of (nat_abs d.tenths);
-      marked = sums.marked || d.marked;
+      s = sums.s +ℤ d;
+      q = sums.q + nat_abs d * nat_abs d;
+      g = sums.g + measure_of (nat_abs d);
     }
 
 -- the sums of a list of differences
-unfoldable pub sums_of : List Difference → Sums
+unfoldable pub sums_of : List ℤ → Sums
 sums_of [] = no_sums
 sums_of (d ∷ ds) = added_of (sums_of ds) d
 

@@ -4,25 +4,18 @@ ghost use Rattle.study.specs.Study.{no_sums, passes_of};
 
 use difference::contribution::size;
 
-// Of the differences d: the sum, the sum of the squares, and the sum of the measures; and whether one
-// of them is marked, by which no criterion goes.
+// Of the differences d: the sum, the sum of the squares, and the sum of the measures.
 #[derive(Drop)]
 pub struct Sums {
     pub s: i32,
     pub q: u32,
     pub g: u32,
-    pub marked: bool,
 }
 
 pub fn empty() -> Sums
     ensures { result ≡ no_sums }
 {
-    Sums {
-        s: 0,
-        q: 0,
-        g: 0,
-        marked: false,
-    }
+    Sums { s: 0, q: 0, g: 0 }
 }
 
 // The lines of a set.

@@ -1,27 +1,17 @@
 -- Small cases of the definitions, computed.
-use Rattle.std.specs.Prelude.{◌≡◌, refl, true, false, [], ◌∷◌, ◌++◌, pos, negsuc, replicate}
+use Rattle.std.specs.Prelude.{◌≡◌, refl, true, [], ◌∷◌, ◌++◌, pos, negsuc, replicate}
 use Rattle.digits.specs.Digits.{digit_of, digits_of}
 use Rattle.reply.specs.Report.{no_report}
-use Rattle.reply.specs.declared.event.Event.TheVariants.{Refused, Sample, Missed, UnderWay, Passed, Failed, ByCharts, ByMisses, ByMisidentifications}
+use Rattle.reply.specs.declared.event.Event.TheVariants.{Refused, UnderWay, ByMisses, ByMisidentifications}
 use Rattle.reply.specs.declared.report.Report.{Report}
 use Rattle.reply.specs.declared.report.ChartReport.{ChartReport}
 use Rattle.text.specs.Text.{answer_text, chart_text, run_texts, status_text}
 
--- 0001, 0100, 0200, 030c, 0400, 0500, 0600, 0700, 0800
-answers : (answer_text (Refused 1) ≡ 48 ∷ 48 ∷ 48 ∷ 49 ∷ 10 ∷ []) × (answer_text (Sample false) ≡ 48 ∷ 49 ∷ 48 ∷ 48 ∷ 10 ∷ [])
-    × (answer_text Missed ≡ 48 ∷ 50 ∷ 48 ∷ 48 ∷ 10 ∷ []) × (answer_text (UnderWay 12) ≡ 48 ∷ 51 ∷ 48 ∷ 99 ∷ 10 ∷ [])
-    × (answer_text (Passed false) ≡ 48 ∷ 52 ∷ 48 ∷ 48 ∷ 10 ∷ []) × (answer_text (Failed false) ≡ 48 ∷ 53 ∷ 48 ∷ 48 ∷ 10 ∷ [])
-    × (answer_text (ByCharts false) ≡ 48 ∷ 54 ∷ 48 ∷ 48 ∷ 10 ∷ []) × (answer_text ByMisses ≡ 48 ∷ 55 ∷ 48 ∷ 48 ∷ 10 ∷ [])
-    × (answer_text (ByMisidentifications false) ≡ 48 ∷ 56 ∷ 48 ∷ 48 ∷ 10 ∷ [])
+-- 0001, 030c, 0700, 0800
+answers : (answer_text (Refused 1) ≡ 48 ∷ 48 ∷ 48 ∷ 49 ∷ 10 ∷ []) × (answer_text (UnderWay 12) ≡ 48 ∷ 51 ∷ 48 ∷ 99 ∷ 10 ∷ [])
+    × (answer_text ByMisses ≡ 48 ∷ 55 ∷ 48 ∷ 48 ∷ 10 ∷ []) × (answer_text ByMisidentifications ≡ 48 ∷ 56 ∷ 48 ∷ 48 ∷ 10 ∷ [])
 unfolding digits_of digit_of
-answers = (refl, refl, refl, refl, refl, refl, refl, refl, refl)
-
--- marked: 0101, 0400, 0500, 0601, 0801
-marked : (answer_text (Sample true) ≡ 48 ∷ 49 ∷ 48 ∷ 49 ∷ 10 ∷ []) × (answer_text (Passed true) ≡ 48 ∷ 52 ∷ 48 ∷ 48 ∷ 10 ∷ [])
-    × (answer_text (Failed true) ≡ 48 ∷ 53 ∷ 48 ∷ 48 ∷ 10 ∷ []) × (answer_text (ByCharts true) ≡ 48 ∷ 54 ∷ 48 ∷ 49 ∷ 10 ∷ [])
-    × (answer_text (ByMisidentifications true) ≡ 48 ∷ 56 ∷ 48 ∷ 49 ∷ 10 ∷ [])
-unfolding digits_of digit_of
-marked = (refl, refl, refl, refl, refl)
+answers = (refl, refl, refl, refl)
 
 -- charts 1 and 9 are over: their lines follow the status line, the lower first
 run : ChartReport

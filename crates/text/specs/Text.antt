@@ -1,11 +1,11 @@
 -- Document 01, "The program": the lines of text that are printed. Each is bytes in hexadecimal, high bytes first, and a newline.
-use Rattle.std.specs.Prelude.{ℕ, zero, suc, cond, List, [], ◌∷◌, ◌++◌, get_or}
+use Rattle.std.specs.Prelude.{ℕ, zero, suc, Bool, true, false, cond, List, [], ◌∷◌, ◌++◌, get_or}
 use Rattle.digits.specs.Digits.{digits_of}
 use Rattle.digits.specs.Numbers.{number_bytes}
 use Rattle.digits.specs.Signed.{signed_bytes}
 use Rattle.difference.specs.Contribution.{CHARTS}
 use Rattle.reply.specs.Report.{bit_at, no_report}
-use Rattle.reply.specs.Event.{event_byte, flag_byte, number_byte}
+use Rattle.reply.specs.Event.{event_byte, number_byte}
 use Rattle.reply.specs.declared.event.Event.{Event}
 use Rattle.reply.specs.declared.report.ChartReport.{ChartReport}
 use Rattle.reply.specs.declared.report.Report.{Report}
@@ -24,9 +24,14 @@ event_bytes e = event_byte e ∷ number_byte e ∷ []
 abbrev pub answer_text : Event → List ℕ
 answer_text e = line_text (event_bytes e)
 
--- stage 1 byte, samples in the stretch 2, mask of charts over 2, 01 if misses opened probation 1
+-- 01 if misses opened probation
+abbrev pub misses_byte : Bool → ℕ
+misses_byte true = 1
+misses_byte false = 0
+
+-- stage 1 byte, samples in the stretch 2, mask of charts over 2, misses 1
 abbrev pub stage_bytes : Report → List ℕ
-stage_bytes r = r.stage ∷ number_bytes 2 r.samples ++ number_bytes 2 r.mask ++ flag_byte r.misses ∷ []
+stage_bytes r = r.stage ∷ number_bytes 2 r.samples ++ number_bytes 2 r.mask ++ misses_byte r.misses ∷ []
 
 -- chart 1 byte, first sample 2, last 2, value 4, in two's complement
 abbrev pub run_bytes : ℕ → ChartReport → List ℕ

@@ -5,7 +5,6 @@ ghost use Rattle.text.specs.Text.{event_bytes, answer_text};
 ghost use Rattle.text.specs.bounds.Room.{ANSWER};
 ghost use Rattle.text.specs.Buffer.{put_text, put_place};
 
-use crate::flag::flag_byte;
 use crate::hex::put_line;
 use crate::room::has_room;
 use reply::event::Event;
@@ -13,21 +12,20 @@ use reply::event::Event;
 // How many bytes an event has as an answer: two digits to a byte, and a newline.
 pub const ANSWER: usize = 5;
 
-// The event byte and the number byte: the number is 0 but where the event has one. The mark of a sample
-// is its number; that of a set is not printed.
+// The event byte and the number byte: the number is 0 but where the event has one.
 fn bytes_of(event: Event) -> [u8; 2]
     ensures { result ≡ event_bytes event }
 {
     match event {
         Event::Refused(n) => [0, n],
-        Event::Sample(marked) => [1, flag_byte(marked)],
+        Event::Sample => [1, 0],
         Event::Missed => [2, 0],
         Event::UnderWay(n) => [3, n],
-        Event::Passed(_) => [4, 0],
-        Event::Failed(_) => [5, 0],
-        Event::ByCharts(marked) => [6, flag_byte(marked)],
+        Event::Passed => [4, 0],
+        Event::Failed => [5, 0],
+        Event::ByCharts => [6, 0],
         Event::ByMisses => [7, 0],
-        Event::ByMisidentifications(marked) => [8, flag_byte(marked)],
+        Event::ByMisidentifications => [8, 0],
     }
 }
 

@@ -1,6 +1,5 @@
 // The text of events and reports, put into a buffer.
 pub mod answer;
-mod flag;
 mod hex;
 pub mod report;
 mod room;

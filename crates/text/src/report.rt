@@ -2,11 +2,10 @@
 
 ghost use Rattle.std.specs.Prelude.{◌≡◌, ◌+◌, ◌≤◌, length};
 ghost use Rattle.difference.specs.Contribution.{CHARTS};
-ghost use Rattle.text.specs.Text.{stage_bytes, run_bytes, run_texts, status_text};
+ghost use Rattle.text.specs.Text.{misses_byte, stage_bytes, run_bytes, run_texts, status_text};
 ghost use Rattle.text.specs.bounds.Room.{RUNS, STATUS};
 ghost use Rattle.text.specs.Buffer.{with_text, put_text, put_place};
 
-use crate::flag::flag_byte;
 use crate::hex::put_line;
 use crate::room::has_room;
 use difference::constants::CHARTS;
@@ -21,6 +20,12 @@ const RUN: usize = 19;
 // How many bytes the status has at most.
 pub const STATUS: usize = STAGE + CHARTS * RUN;
 
+fn misses_byte(misses: bool) -> u8
+    ensures { result ≡ misses_byte misses }
+{
+    if misses { 1 } else { 0 }
+}
+
 fn stage_bytes(report: Report) -> [u8; 6]
     ensures { result ≡ stage_bytes report }
 {
@@ -32,7 +37,7 @@ fn stage_bytes(report: Report) -> [u8; 6]
         samples[1],
         mask[0],
         mask[1],
-        flag_byte(report.misses),
+        misses_byte(report.misses),
     ]
 }
 

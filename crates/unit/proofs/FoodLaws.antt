@@ -24,23 +24,23 @@ use Rattle.unit.specs.Accepted.{Accepted, AcceptedIs}
 use Rattle.seen.specs.Rules.{food_chemistry, rules_of}
 use Rattle.unit.specs.Claim.{is_accepted}
 use Rattle.unit.specs.Take.{taken_in}
-use Rattle.unit.specs.bounds.Numbers.{WithinCap, GoodSeen}
+use Rattle.unit.specs.bounds.Numbers.{Capped, GoodSeen}
 use Rattle.unit.specs.declared.Unit as U
 use Rattle.unit.proofs.Dates.{good_of}
 use Rattle.unit.proofs.Sound.{Sound, accepted_reads}
 
-within_for : (product analyte mean : ℕ) (x : Reading) → nat_abs (difference_for product analyte mean x).tenths ≤ CAP
-within_for product analyte mean x = difference_small 1000000 (distance (hundredths_in (amount_of x)) mean) (value_of product analyte mean)
+capped_for : (product analyte mean : ℕ) (x : Reading) → nat_abs (difference_for product analyte mean x).tenths ≤ CAP
+capped_for product analyte mean x = difference_small 1000000 (distance (hundredths_in (amount_of x)) mean) (value_of product analyte mean)
 
-within : (r : Record) → WithinCap (by_analyte difference_for r)
-within r zero = within_for r.product 0 r.means.moisture r.readings.moisture
-within r (suc zero) = within_for r.product 1 r.means.protein r.readings.protein
-within r (suc (suc zero)) = within_for r.product 2 r.means.fat r.readings.fat
-within r (suc (suc (suc zero))) = within_for r.product 3 r.means.salt r.readings.salt
-within r (suc (suc (suc (suc a)))) = lit≤ tt
+capped : (r : Record) → Capped (by_analyte difference_for r)
+capped r zero = capped_for r.product 0 r.means.moisture r.readings.moisture
+capped r (suc zero) = capped_for r.product 1 r.means.protein r.readings.protein
+capped r (suc (suc zero)) = capped_for r.product 2 r.means.fat r.readings.fat
+capped r (suc (suc (suc zero))) = capped_for r.product 3 r.means.salt r.readings.salt
+capped r (suc (suc (suc (suc a)))) = lit≤ tt
 
 good_fields : (f : Fields) → Clean f → GoodSeen (seen_of (record_of f))
-good_fields f c = good_of (seen_of (record_of f)) f.month c.date refl (within (record_of f))
+good_fields f c = good_of (seen_of (record_of f)) f.month c.date refl (capped (record_of f))
 
 -- a line that reads
 good_line : (line : List ℕ) → first_row (line_rows line) ≡ 0 → GoodSeen (seen_of (record_of (fields_at line)))

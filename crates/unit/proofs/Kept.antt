@@ -83,10 +83,10 @@ missed_next : (b : Bool) (u : U.Unit) (m : ℕ) → is_admission (missed_by b u 
 missed_next true u m = refl
 missed_next false u m = refl
 
-sample_next : (a b p : Bool) (u : U.Unit) (m : ℕ) (t : Stretch) (n : List ℕ) → is_admission (sample_by a b p u m t n).event ≡ false
-sample_next true b p u m t n = refl
-sample_next false true p u m t n = refl
-sample_next false false p u m t n = refl
+sample_next : (a b : Bool) (u : U.Unit) (m : ℕ) (t : Stretch) (n : List ℕ) → is_admission (sample_by a b u m t n).event ≡ false
+sample_next true b u m t n = refl
+sample_next false true u m t n = refl
+sample_next false false u m t n = refl
 
 -- what is kept after a step
 abbrev pub next : List Step → List ℕ → Event → List Step
@@ -279,15 +279,15 @@ module _ (g : Rules) (sound : Sound g) (u : U.Unit) (h : List Step) (line : List
         miss = omega (arith, K.miss, later);
       }
 
-  sample_step : (a b marked : Bool) → is_broken latest ≡ a → any_over g.constants t.charts ≡ b → x.study ≡ false → x.missed ≡ false
-      → Kept g (sample_by a b marked u x.month t latest).unit (h ++ step (sample_by a b marked u x.month t latest).event ∷ [])
-  sample_step true b marked p q k m =
-      sample_with (ByMisidentifications marked) PROBATION refl (sym p) (sym (ap (λ (r : Bool). r || any_over g.constants t.charts) p)) (λ (z : PROBATION ≡ ACCREDITED). absurd (omega arith)) k m
-  sample_step false true marked p q k m =
-      sample_with (ByCharts marked) PROBATION refl (sym p) (sym (ap₂ (λ (r s : Bool). r || s) p q)) (λ (z : PROBATION ≡ ACCREDITED). absurd (omega arith)) k m
-  sample_step false false marked p q k m =
+  sample_step : (a b : Bool) → is_broken latest ≡ a → any_over g.constants t.charts ≡ b → x.study ≡ false → x.missed ≡ false
+      → Kept g (sample_by a b u x.month t latest).unit (h ++ step (sample_by a b u x.month t latest).event ∷ [])
+  sample_step true b p q k m =
+      sample_with ByMisidentifications PROBATION refl (sym p) (sym (ap (λ (r : Bool). r || any_over g.constants t.charts) p)) (λ (z : PROBATION ≡ ACCREDITED). absurd (omega arith)) k m
+  sample_step false true p q k m =
+      sample_with ByCharts PROBATION refl (sym p) (sym (ap₂ (λ (r s : Bool). r || s) p q)) (λ (z : PROBATION ≡ ACCREDITED). absurd (omega arith)) k m
+  sample_step false false p q k m =
       let none = ap₂ (λ (r s : Bool). r || s) p q in
-      sample_with (Sample marked) u.stage refl (sym p) (sym none) (λ _. none) k m
+      sample_with Sample u.stage refl (sym p) (sym none) (λ _. none) k m
 
   -- ---- an accepted study line leaves no entry
 
@@ -295,13 +295,13 @@ module _ (g : Rules) (sound : Sound g) (u : U.Unit) (h : List Step) (line : List
   study_entry e n k =
       ap (λ (p : Bool). cond p (entry_of g.constants x) []) n ∙ ap (λ (p : Bool). cond p [] (entry_by x.missed g.constants x ∷ [])) k
 
-  judged_step : (b n : Bool) → x.study ≡ true → Kept g (judged_by b n u x.month).unit (next h line (judged_by b n u x.month).event)
-  judged_step true n k = fresh g _ refl refl refl
-  judged_step false n k = idle g u _ h (step (Failed n)) (study_entry (Failed n) refl k) refl refl refl refl (λ z. failed_elsewhere u.stage _ z) later K
+  judged_step : (b : Bool) → x.study ≡ true → Kept g (judged_by b u x.month).unit (next h line (judged_by b u x.month).event)
+  judged_step true k = fresh g _ refl refl refl
+  judged_step false k = idle g u _ h (step Failed) (study_entry Failed refl k) refl refl refl refl (λ z. failed_elsewhere u.stage _ z) later K
 
   study_step : (b : Bool) (s : Set) → x.study ≡ true
       → Kept g (study_by b g.constants u x.month s).unit (next h line (study_by b g.constants u x.month s).event)
-  study_step true s k = judged_step (passes_set g.constants s) _ k
+  study_step true s k = judged_step (passes_set g.constants s) k
   study_step false s k = idle g u _ h (step (UnderWay s.lines)) (study_entry (UnderWay s.lines) refl k) refl refl refl refl (λ z. z) later K
 
   accepted_step : (a b : Bool) → x.study ≡ a → x.missed ≡ b
@@ -313,7 +313,7 @@ module _ (g : Rules) (sound : Sound g) (u : U.Unit) (h : List Step) (line : List
   accepted_step false false p q =
       let a = is_broken latest in
       let b = any_over g.constants t.charts in
-      rw (sample_next a b _ u x.month t latest) (sample_step a b _ refl refl p q)
+      rw (sample_next a b u x.month t latest) (sample_step a b refl refl p q)
 
 -- ---- every line
 

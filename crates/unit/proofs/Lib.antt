@@ -21,5 +21,3 @@ pub mod Kept
 pub mod Claimed
 pub mod ResidueUnitLaws
 pub mod MisidentifiedLaws
-pub mod SetLaws
-pub mod MarkedLaws

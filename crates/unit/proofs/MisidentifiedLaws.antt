@@ -1,10 +1,9 @@
 -- Misidentifications over the list of lines: a residue unit answers 08 where the first window breaks, and a unit of food chemistry never. Assumes nothing.
 use Prim.Native.Nat.{ℕ, zero, suc}
 use mathlib.Core.Path.{◌≡◌, refl, sym, ap, ap₂, subst, ◌∙◌}
-use mathlib.Core.Bool.{Bool, true, false, cond, not, ◌||◌, or-true, true≢false, false≢true}
+use mathlib.Core.Bool.{Bool, true, false, cond, ◌||◌, or-true, true≢false, false≢true}
 use mathlib.Core.Logic.{◌↔◌, ⊎_elim}
 use mathlib.Core.List.{List, [], ◌∷◌, ◌++◌}
-use borrow.Author.Tests.{eqb-true}
 use lib.Dec.{eqb}
 use Rattle.difference.specs.declared.category.Category.{Category}
 use Rattle.difference.specs.declared.category.Category.TheVariants.{Food, Residue}
@@ -13,8 +12,8 @@ use Rattle.grounds.specs.Claim.{Misidentified}
 use Rattle.grounds.specs.Earlier.{again, no_counts, latest_of, is_broken}
 use Rattle.laws.proofs.Bools.{or_either, or_neither}
 use Rattle.laws.proofs.Cond.{cases}
-use Rattle.reply.specs.Event.{event_byte}
 use Rattle.reply.specs.declared.event.Event.{Event}
+use Rattle.reply.specs.declared.event.Event.TheVariants.{Refused, Sample, Missed, UnderWay, Passed, Failed, ByCharts, ByMisses, ByMisidentifications}
 use Rattle.rows.specs.Rows.{first_row}
 use Rattle.seen.specs.Rules.{food_chemistry, residues_of, rules_of}
 use Rattle.seen.specs.declared.Seen.{Seen}
@@ -50,6 +49,18 @@ named_opens (x ∷ h) e = ⊎_elim
     (λ q. ap (λ (b : Bool). opens x.event || b) (named_opens h q) ∙ or-true (opens x.event))
     (or_either (is_misidentification x.event) (misidentified_in h) e)
 
+-- 08 is the byte of no other event
+byte_is : (e : Event) → is_misidentification e ≡ true → e ≡ ByMisidentifications
+byte_is (Refused n) b = absurd (false≢true b)
+byte_is Sample b = absurd (false≢true b)
+byte_is Missed b = absurd (false≢true b)
+byte_is (UnderWay n) b = absurd (false≢true b)
+byte_is Passed b = absurd (false≢true b)
+byte_is Failed b = absurd (false≢true b)
+byte_is ByCharts b = absurd (false≢true b)
+byte_is ByMisses b = absurd (false≢true b)
+byte_is ByMisidentifications b = refl
+
 -- ---- residues
 
 module _ (compound : ℕ) where
@@ -68,16 +79,15 @@ module _ (compound : ℕ) where
     named_after = ap misidentified_in (history_more (new_of k) ls line) ∙ named_more (history k ls) (record { line = line; event = event })
 
     -- where one stood before, no line is answered so
-    closed_before : is_misidentification event ≡ true → TooManySince compound ls → ⊥
+    closed_before : event ≡ ByMisidentifications → TooManySince compound ls → ⊥
     closed_before e w =
-        let taken : is_accepted event ≡ true = ap (λ (n : ℕ). not (eqb n 0)) (eqb-true (event_byte event) 8 e) in
         let reads = accepted_reads (residues_of compound) (residue_sound compound) (replay k ls) line
-        (subst (λ (j : Category). is_accepted (taken_in (rules_of j) (replay k ls) line).event ≡ true) (category_is k ls) taken) in
+        (subst (λ (j : Category). is_accepted (taken_in (rules_of j) (replay k ls) line).event ≡ true) (category_is k ls) (ap is_accepted e)) in
         let eight = (closed_after compound ls line reads).1 (named_opens (history k ls) ((named_is ls).1 w)) in
-        true≢false (sym taken ∙ ap is_accepted eight)
+        true≢false (sym (ap is_accepted e) ∙ ap is_accepted eight)
 
-    first_of : TooManySince compound (ls ++ line ∷ []) → (TooManySince compound ls → ⊥) → is_misidentification event ≡ true
-    first_of w none = go (misidentified_in (history k ls)) refl (sym named_after ∙ (named_is (ls ++ line ∷ [])).1 w)
+    first_of : TooManySince compound (ls ++ line ∷ []) → (TooManySince compound ls → ⊥) → event ≡ ByMisidentifications
+    first_of w none = byte_is event (go (misidentified_in (history k ls)) refl (sym named_after ∙ (named_is (ls ++ line ∷ [])).1 w))
       where
         go : (b : Bool) → misidentified_in (history k ls) ≡ b → (misidentified_in (history k ls) || is_misidentification event) ≡ true → is_misidentification event ≡ true
         go true p e = absurd (none ((named_is ls).0 p))
@@ -87,7 +97,7 @@ pub first_breaks : FirstBreaks
 first_breaks compound ls line = (
   λ e. (
     (named_is compound (ls ++ line ∷ [])).0
-        (named_after compound ls line ∙ ap (λ (b : Bool). misidentified_in (history (Residue compound) ls) || b) e ∙ or-true (misidentified_in (history (Residue compound) ls))),
+        (named_after compound ls line ∙ ap (λ (v : Event). misidentified_in (history (Residue compound) ls) || is_misidentification v) e ∙ or-true (misidentified_in (history (Residue compound) ls))),
     closed_before compound ls line e,
   ),
   λ p. first_of compound ls line p.0 p.1,
@@ -104,19 +114,19 @@ module _ (c : Constants) (u : U.Unit) (quiet : u.latest ≡ no_counts) where
   missed_unbroken true m = record { latest = quiet; event = refl }
   missed_unbroken false m = record { latest = quiet; event = refl }
 
-  sample_by_lem : (b n : Bool) (m : ℕ) (s : Stretch) → Unbroken (sample_by false b n u m s no_counts)
-  sample_by_lem true n m s = record { latest = refl; event = refl }
-  sample_by_lem false n m s = record { latest = refl; event = refl }
+  sample_by_lem : (b : Bool) (m : ℕ) (s : Stretch) → Unbroken (sample_by false b u m s no_counts)
+  sample_by_lem true m s = record { latest = refl; event = refl }
+  sample_by_lem false m s = record { latest = refl; event = refl }
 
-  sample_unbroken : (b n : Bool) (m : ℕ) (s : Stretch) (latest : List ℕ) → latest ≡ no_counts → Unbroken (sample_by (is_broken latest) b n u m s latest)
-  sample_unbroken b n m s latest e = subst (λ (l : List ℕ). Unbroken (sample_by (is_broken l) b n u m s l)) (sym e) (sample_by_lem b n m s)
+  sample_unbroken : (b : Bool) (m : ℕ) (s : Stretch) (n : List ℕ) → n ≡ no_counts → Unbroken (sample_by (is_broken n) b u m s n)
+  sample_unbroken b m s n e = subst (λ (l : List ℕ). Unbroken (sample_by (is_broken l) b u m s l)) (sym e) (sample_by_lem b m s)
 
-  judged_unbroken : (b n : Bool) (m : ℕ) → Unbroken (judged_by b n u m)
-  judged_unbroken true n m = record { latest = refl; event = refl }
-  judged_unbroken false n m = record { latest = quiet; event = refl }
+  judged_unbroken : (b : Bool) (m : ℕ) → Unbroken (judged_by b u m)
+  judged_unbroken true m = record { latest = refl; event = refl }
+  judged_unbroken false m = record { latest = quiet; event = refl }
 
   study_unbroken : (b : Bool) (m : ℕ) (s : Set) → Unbroken (study_by b c u m s)
-  study_unbroken true m s = judged_unbroken (passes_set c s) _ m
+  study_unbroken true m s = judged_unbroken (passes_set c s) m
   study_unbroken false m s = record { latest = quiet; event = refl }
 
   module _ (x : Seen) (none : x.count ≡ 0) where
@@ -125,7 +135,7 @@ module _ (c : Constants) (u : U.Unit) (quiet : u.latest ≡ no_counts) where
     accepted_unbroken false true = missed_unbroken (again u.misses.last x.month) x.month
     accepted_unbroken false false =
         let s = sampled_of c u.stretch x.year x.differences in
-        sample_unbroken (any_over c s.charts) _ x.month s (latest_after u x) (ap₂ latest_of none quiet)
+        sample_unbroken (any_over c s.charts) x.month s (latest_after u x) (ap₂ latest_of none quiet)
 
     by_row_lem : (n : ℕ) → Unbroken (taken_by_row n c u x)
     by_row_lem zero = accepted_unbroken x.study x.missed

@@ -37,17 +37,17 @@ missed_kept : (b : Bool) (c : Constants) (u : U.Unit) (m : ℕ) → m ≤ LAST_M
 missed_kept true c u m h k = record { lines = k.lines; sums = k.sums; stretch = k.stretch; miss = h }
 missed_kept false c u m h k = record { lines = k.lines; sums = k.sums; stretch = k.stretch; miss = h }
 
-sample_kept : (a b n : Bool) (c : Constants) (u : U.Unit) (m : ℕ) (s : Stretch) (latest : List ℕ) → StretchBounded c s → Bounded c u → Bounded c (sample_by a b n u m s latest).unit
-sample_kept true b n c u m s latest h k = record { lines = k.lines; sums = k.sums; stretch = h; miss = k.miss }
-sample_kept false true n c u m s latest h k = record { lines = k.lines; sums = k.sums; stretch = h; miss = k.miss }
-sample_kept false false n c u m s latest h k = record { lines = k.lines; sums = k.sums; stretch = h; miss = k.miss }
+sample_kept : (a b : Bool) (c : Constants) (u : U.Unit) (m : ℕ) (s : Stretch) (latest : List ℕ) → StretchBounded c s → Bounded c u → Bounded c (sample_by a b u m s latest).unit
+sample_kept true b c u m s latest h k = record { lines = k.lines; sums = k.sums; stretch = h; miss = k.miss }
+sample_kept false true c u m s latest h k = record { lines = k.lines; sums = k.sums; stretch = h; miss = k.miss }
+sample_kept false false c u m s latest h k = record { lines = k.lines; sums = k.sums; stretch = h; miss = k.miss }
 
-judged_kept : (b n : Bool) (c : Constants) (u : U.Unit) (m : ℕ) → Bounded c u → Bounded c (judged_by b n u m).unit
-judged_kept true n c u m k = record { lines = lit< tt; sums = empty_bounded; stretch = no_samples_bounded c; miss = lit≤ tt }
-judged_kept false n c u m k = record { lines = lit< tt; sums = empty_bounded; stretch = k.stretch; miss = k.miss }
+judged_kept : (b : Bool) (c : Constants) (u : U.Unit) (m : ℕ) → Bounded c u → Bounded c (judged_by b u m).unit
+judged_kept true c u m k = record { lines = lit< tt; sums = empty_bounded; stretch = no_samples_bounded c; miss = lit≤ tt }
+judged_kept false c u m k = record { lines = lit< tt; sums = empty_bounded; stretch = k.stretch; miss = k.miss }
 
 study_kept : (b : Bool) (c : Constants) (u : U.Unit) (m : ℕ) (s : Set) → eqb s.lines SET ≡ b → s.lines ≤ SET → SetBounded s → Bounded c u → Bounded c (study_by b c u m s).unit
-study_kept true c u m s e l h k = judged_kept (passes_set c s) _ c u m k
+study_kept true c u m s e l h k = judged_kept (passes_set c s) c u m k
 study_kept false c u m s e l h k = record { lines = less s.lines l (eqb-false s.lines SET e); sums = h; stretch = k.stretch; miss = k.miss }
   where
     less : (n : ℕ) → n ≤ SET → (n ≡ SET → ⊥) → n < SET
@@ -57,12 +57,12 @@ module _ (g : Rules) (sound : Sound g) (u : U.Unit) (k : Bounded g.constants u) 
   accepted_kept : (a b : Bool) (x : Seen) → x.study ≡ a → x.missed ≡ b → Open u x → GoodSeen x → Bounded g.constants (accepted_by a b g.constants u x).unit
   accepted_kept true b x p q o h =
       let s = entered_of g.constants u.set x.differences in
-      study_kept (eqb s.lines SET) g.constants u x.month s refl k.lines (entered_bounded g.constants sound.few u.set x.differences k.sums h.within) k
+      study_kept (eqb s.lines SET) g.constants u x.month s refl k.lines (entered_bounded g.constants sound.few u.set x.differences k.sums h.capped) k
   accepted_kept false true x p q o h = missed_kept (again u.misses.last x.month) g.constants u x.month (omega (arith, h.december, h.late)) k
   accepted_kept false false x p q o h =
       let s = sampled_of g.constants u.stretch x.year x.differences in
       let latest = latest_after u x in
-      sample_kept (is_broken latest) (any_over g.constants s.charts) _ g.constants u x.month s latest
+      sample_kept (is_broken latest) (any_over g.constants s.charts) g.constants u x.month s latest
       (sampled_bounded g.constants sound.few sound.fits u.stretch k.stretch x.year x.differences (room u x o p q)) k
 
   pub bounded_take : (line : List ℕ) → Bounded g.constants (taken_in g u line).unit

@@ -32,17 +32,17 @@ missed_leaves : (b : Bool) (u : U.Unit) (m : ℕ) → Leaves u m (missed_by b u 
 missed_leaves true u m = record { event = refl; month_is = refl; category_is = refl }
 missed_leaves false u m = record { event = refl; month_is = refl; category_is = refl }
 
-sample_leaves : (a b n : Bool) (u : U.Unit) (m : ℕ) (s : Stretch) (latest : List ℕ) → Leaves u m (sample_by a b n u m s latest)
-sample_leaves true b n u m s latest = record { event = refl; month_is = refl; category_is = refl }
-sample_leaves false true n u m s latest = record { event = refl; month_is = refl; category_is = refl }
-sample_leaves false false n u m s latest = record { event = refl; month_is = refl; category_is = refl }
+sample_leaves : (a b : Bool) (u : U.Unit) (m : ℕ) (s : Stretch) (latest : List ℕ) → Leaves u m (sample_by a b u m s latest)
+sample_leaves true b u m s latest = record { event = refl; month_is = refl; category_is = refl }
+sample_leaves false true u m s latest = record { event = refl; month_is = refl; category_is = refl }
+sample_leaves false false u m s latest = record { event = refl; month_is = refl; category_is = refl }
 
-judged_leaves : (b n : Bool) (u : U.Unit) (m : ℕ) → Leaves u m (judged_by b n u m)
-judged_leaves true n u m = record { event = refl; month_is = refl; category_is = refl }
-judged_leaves false n u m = record { event = refl; month_is = refl; category_is = refl }
+judged_leaves : (b : Bool) (u : U.Unit) (m : ℕ) → Leaves u m (judged_by b u m)
+judged_leaves true u m = record { event = refl; month_is = refl; category_is = refl }
+judged_leaves false u m = record { event = refl; month_is = refl; category_is = refl }
 
 study_leaves : (b : Bool) (c : Constants) (u : U.Unit) (m : ℕ) (s : Set) → Leaves u m (study_by b c u m s)
-study_leaves true c u m s = judged_leaves (passes_set c s) _ u m
+study_leaves true c u m s = judged_leaves (passes_set c s) u m
 study_leaves false c u m s = record { event = refl; month_is = refl; category_is = refl }
 
 accepted_leaves : (a b : Bool) (c : Constants) (u : U.Unit) (x : Seen) → Leaves u x.month (accepted_by a b c u x)
@@ -51,7 +51,7 @@ accepted_leaves false true c u x = missed_leaves (again u.misses.last x.month) u
 accepted_leaves false false c u x =
     let s = sampled_of c u.stretch x.year x.differences in
     let latest = latest_after u x in
-    sample_leaves (is_broken latest) (any_over c s.charts) _ u x.month s latest
+    sample_leaves (is_broken latest) (any_over c s.charts) u x.month s latest
 
 -- where no row fits
 pub leaves : (c : Constants) (u : U.Unit) (x : Seen) → Leaves u x.month (taken_by_row 0 c u x)

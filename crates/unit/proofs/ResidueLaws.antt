@@ -25,21 +25,21 @@ use Rattle.unit.specs.Accepted.{AcceptedResidue, AcceptedResidueIs}
 use Rattle.seen.specs.Rules.{residues_of, rules_of}
 use Rattle.unit.specs.Claim.{is_accepted}
 use Rattle.unit.specs.Take.{taken_in}
-use Rattle.unit.specs.bounds.Numbers.{WithinCap, GoodSeen}
+use Rattle.unit.specs.bounds.Numbers.{Capped, GoodSeen}
 use Rattle.unit.specs.declared.Unit as U
 use Rattle.unit.proofs.Dates.{good_of}
 use Rattle.unit.proofs.Sound.{Sound, accepted_reads}
 
-within_for : (compound : ℕ) (comparison : ℤ) (x : ResultLog) → nat_abs (difference_for compound comparison x).tenths ≤ CAP
-within_for compound comparison (Log result) = difference_small 10 (result -ℤ comparison) (residue_value compound)
-within_for compound comparison Lost = lit≤ tt
+capped_for : (compound : ℕ) (comparison : ℤ) (x : ResultLog) → nat_abs (difference_for compound comparison x).tenths ≤ CAP
+capped_for compound comparison (Log result) = difference_small 10 (result -ℤ comparison) (residue_value compound)
+capped_for compound comparison Lost = lit≤ tt
 
-within : (r : Record) → WithinCap (differences_of r)
-within r zero = within_for r.compound r.comparison r.result
-within r (suc zero) = lit≤ tt
-within r (suc (suc zero)) = lit≤ tt
-within r (suc (suc (suc zero))) = lit≤ tt
-within r (suc (suc (suc (suc a)))) = lit≤ tt
+capped : (r : Record) → Capped (differences_of r)
+capped r zero = capped_for r.compound r.comparison r.result
+capped r (suc zero) = lit≤ tt
+capped r (suc (suc zero)) = lit≤ tt
+capped r (suc (suc (suc zero))) = lit≤ tt
+capped r (suc (suc (suc (suc a)))) = lit≤ tt
 
 module _ (compound : ℕ) where
   -- none of the rows of the fields fits
@@ -47,7 +47,7 @@ module _ (compound : ℕ) where
   clean_line line e = clean compound (fields_at line) (good compound line e).rows
 
   good_line : (line : List ℕ) → first_row (line_rows compound line) ≡ 0 → GoodSeen (seen_of (record_of (fields_at line)))
-  good_line line e = let f = fields_at line in good_of (seen_of (record_of f)) f.month (clean_line line e).date refl (within (record_of f))
+  good_line line e = let f = fields_at line in good_of (seen_of (record_of f)) f.month (clean_line line e).date refl (capped (record_of f))
 
   -- residues of a compound have what the unit needs of a category
   pub residue_sound : Sound (residues_of compound)

@@ -25,7 +25,7 @@ use Rattle.unit.specs.ResidueUnit.{OfResidues, FirstTaken, RowsNever, of_set, Se
 use Rattle.unit.specs.Reached.{after, replay}
 use Rattle.unit.specs.Status.{status_by}
 use Rattle.unit.specs.Stretch.{any_over, sampled_of}
-use Rattle.unit.specs.Take.{ACCREDITED, PROBATION, ROW_CLOSED, ROW_STAGE, ROW_GAP, backdated_row, full_row, unit_rows, missed_by, latest_after, sample_by, accepted_by, taken_by_row, rows_in, taken_in, taken_of, new_of}
+use Rattle.unit.specs.Take.{ACCREDITED, PROBATION, ROW_CLOSED, ROW_STAGE, ROW_GAP, closed_in, backdated_row, full_row, unit_rows, missed_by, latest_after, sample_by, accepted_by, taken_by_row, rows_in, taken_in, taken_of, new_of}
 use Rattle.unit.specs.declared.Taken.{Taken}
 use Rattle.unit.specs.declared.Unit as U
 use Rattle.unit.specs.declared.stretch.Stretch.{Stretch}
@@ -51,10 +51,10 @@ missed_event : (b : Bool) (u : U.Unit) (m : ℕ) → of_set (missed_by b u m).ev
 missed_event true u m = refl
 missed_event false u m = refl
 
-sample_event : (a b n : Bool) (u : U.Unit) (m : ℕ) (s : Stretch) (latest : List ℕ) → of_set (sample_by a b n u m s latest).event ≡ false
-sample_event true b n u m s latest = refl
-sample_event false true n u m s latest = refl
-sample_event false false n u m s latest = refl
+sample_event : (a b : Bool) (u : U.Unit) (m : ℕ) (s : Stretch) (latest : List ℕ) → of_set (sample_by a b u m s latest).event ≡ false
+sample_event true b u m s latest = refl
+sample_event false true u m s latest = refl
+sample_event false false u m s latest = refl
 
 module _ (compound : ℕ) (u : U.Unit) (of : OfResidues compound u) (line : List ℕ) where
   abbrev g : Rules
@@ -104,7 +104,7 @@ module _ (compound : ℕ) (u : U.Unit) (of : OfResidues compound u) (line : List
   accepted_event false =
       let s = sampled_of residue u.stretch x.year x.differences in
       let latest = latest_after u x in
-      sample_event (is_broken latest) (any_over residue s.charts) _ u x.month s latest
+      sample_event (is_broken latest) (any_over residue s.charts) u x.month s latest
 
   event_by : (n : ℕ) → of_set (taken_by_row n residue u x).event ≡ false
   event_by zero = accepted_event x.missed
@@ -124,17 +124,17 @@ module _ (compound : ℕ) (u : U.Unit) (of : OfResidues compound u) (line : List
   missed_leads true m = refl
   missed_leads false m = refl
 
-  sample_leads : (a b n : Bool) (m : ℕ) (s : Stretch) (latest : List ℕ) → Leads (sample_by a b n u m s latest)
-  sample_leads true b n m s latest = refl
-  sample_leads false true n m s latest = refl
-  sample_leads false false n m s latest = refl
+  sample_leads : (a b : Bool) (m : ℕ) (s : Stretch) (latest : List ℕ) → Leads (sample_by a b u m s latest)
+  sample_leads true b m s latest = refl
+  sample_leads false true m s latest = refl
+  sample_leads false false m s latest = refl
 
   accepted_leads : (b : Bool) → Leads (accepted_by false b residue u x)
   accepted_leads true = missed_leads (again u.misses.last x.month) x.month
   accepted_leads false =
       let s = sampled_of residue u.stretch x.year x.differences in
       let latest = latest_after u x in
-      sample_leads (is_broken latest) (any_over residue s.charts) _ x.month s latest
+      sample_leads (is_broken latest) (any_over residue s.charts) x.month s latest
 
   leads_by : (n : ℕ) → Leads (taken_by_row n residue u x)
   leads_by zero = accepted_leads x.missed

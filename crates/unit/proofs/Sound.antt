@@ -18,7 +18,7 @@ pub record Sound (g : Rules) : Type 0 where
   -- its analytes and its numbers fit
   pub few : g.constants.analytes ≤ ANALYTES
   pub fits : Fits g.constants
-  -- a line that reads has a date of a line, and differences within the cap
+  -- a line that reads has a date of a line, and capped differences
   pub good : (line : List ℕ) → first_row (g.rows line) ≡ 0 → GoodSeen (g.seen line)
   -- its rows and rows 8 to 12 are a table
   pub all : (u : U.Unit) (line : List ℕ) → distinct (rows_in g u line) ≡ true

@@ -8,7 +8,7 @@ use native.Mathlib.Omega.{arith}
 use borrow.Author.Tests.{ltb-true, ltb-false}
 use lib.Dec.{ltb}
 use lib.ListN.{length, length-replicate}
-use lib.IntN.{nat_abs}
+use lib.IntN.{ℤ, nat_abs}
 use Rattle.difference.specs.Difference.{CAP}
 use Rattle.difference.specs.declared.constants.Constants.{Constants}
 use Rattle.difference.specs.declared.difference.Difference.{Difference}
@@ -20,27 +20,27 @@ use Rattle.difference.specs.Contribution.{ANALYTES}
 use Rattle.unit.specs.Charts.{difference_at}
 use Rattle.unit.specs.Set.{empty_set, entered_by, entered_of, sums_at}
 use Rattle.study.specs.Study.{no_sums, added_of, sums_of}
-use Rattle.unit.specs.bounds.Numbers.{SumsBounded, SetBounded, WithinCap}
+use Rattle.unit.specs.bounds.Numbers.{SumsBounded, SetBounded, Capped}
 use Rattle.unit.specs.declared.set.Set.{Set}
 use Rattle.study.specs.declared.Sums.{Sums}
 
 pub none_bounded : SumsBounded 0 no_sums
 none_bounded = record { s = omega arith; q = omega arith; g = omega arith }
 
-pub more_bounded : {n : ℕ} (sums : Sums) (d : Difference) → nat_abs d.tenths ≤ CAP → SumsBounded n sums → SumsBounded (suc n) (added_of sums d)
+pub more_bounded : {n : ℕ} (sums : Sums) (d : ℤ) → nat_abs d ≤ CAP → SumsBounded n sums → SumsBounded (suc n) (added_of sums d)
 more_bounded sums d h k =
     record {
-      s = omega (arith, abs_plus sums.s d.tenths, k.s);
+      s = omega (arith, abs_plus sums.s d, k.s);
       q = omega (arith, mul-le-mul h h, k.q);
-      g = omega (arith, measure_small (nat_abs d.tenths), k.g);
+      g = omega (arith, measure_small (nat_abs d), k.g);
     }
 
 -- each difference of the list is at most CAP in size
-abbrev pub Small : List Difference → Type 0
+abbrev pub Small : List ℤ → Type 0
 Small [] = Unit {0}
-Small (d ∷ ds) = (nat_abs d.tenths ≤ CAP) × Small ds
+Small (d ∷ ds) = (nat_abs d ≤ CAP) × Small ds
 
-pub list_bounded : (ds : List Difference) → Small ds → SumsBounded (length ds) (sums_of ds)
+pub list_bounded : (ds : List ℤ) → Small ds → SumsBounded (length ds) (sums_of ds)
 unfolding sums_of
 list_bounded [] h = none_bounded
 list_bounded (d ∷ ds) h = more_bounded (sums_of ds) d h.0 (list_bounded ds h.1)
@@ -54,7 +54,7 @@ empty_bounded = record { room = length-replicate ANALYTES no_sums; sums = λ a. 
 pub looser : {m n : ℕ} (sums : Sums) → m ≤ n → SumsBounded m sums → SumsBounded n sums
 looser sums h k = record { s = omega (arith, k.s); q = omega (arith, k.q); g = omega (arith, k.g) }
 
-pub entered_bounded : (c : Constants) → c.analytes ≤ ANALYTES → (s : Set) (ds : List Difference) → SetBounded s → WithinCap ds → SetBounded (entered_of c s ds)
+pub entered_bounded : (c : Constants) → c.analytes ≤ ANALYTES → (s : Set) (ds : List Difference) → SetBounded s → Capped ds → SetBounded (entered_of c s ds)
 entered_bounded c few s ds h cap = record {
   room = each_length c.analytes (entered_by ds) s.sums ∙ h.room;
   sums = λ a. go a (ltb a c.analytes) refl;

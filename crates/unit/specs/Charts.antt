@@ -22,8 +22,8 @@ abbrev pub chart_of : Chart → ℕ → ℤ → Chart
 chart_of chart before x = record { value = next_value before chart.value x; first = next_first before chart.value chart.first }
 
 -- the difference of an analyte
-abbrev pub difference_at : List Difference → ℕ → Difference
-difference_at ds analyte = get_or ds analyte no_difference
+abbrev pub difference_at : List Difference → ℕ → ℤ
+difference_at ds analyte = (get_or ds analyte no_difference).tenths
 
 -- what an analyte contributes to its chart k
 abbrev pub contribution_at : Contributions → ℕ → ℤ

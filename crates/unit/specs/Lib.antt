@@ -1,4 +1,4 @@
--- Document 01, section by section, with requests One, Three and Five of document 02. `bounds` is no part of its rules.
+-- Document 01, section by section, with requests One and Three of document 02. `bounds` is no part of its rules.
 pub mod Charts
 pub mod Stretch
 pub mod Set
@@ -11,6 +11,4 @@ pub mod Since
 pub mod ResidueUnit
 pub mod Misidentified
 pub mod Months
-pub mod SetLines
-pub mod Marked
 pub mod bounds

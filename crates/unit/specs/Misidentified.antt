@@ -1,9 +1,10 @@
 -- Document 02, request Three, as laws over the list of lines that are proved (proofs/MisidentifiedLaws): nothing of the unit's memory is in them.
-use Rattle.std.specs.Prelude.{ℕ, ◌≡◌, true, false, ◌↔◌, List, [], ◌∷◌, ◌++◌}
+use Rattle.std.specs.Prelude.{ℕ, ◌≡◌, false, ◌↔◌, List, [], ◌∷◌, ◌++◌}
 use Rattle.difference.specs.declared.category.Category.TheVariants.{Food, Residue}
 use Rattle.grounds.specs.Claim.{Misidentified}
+use Rattle.reply.specs.declared.event.Event.TheVariants.{ByMisidentifications}
 use Rattle.seen.specs.Rules.{food_chemistry, residues_of}
-use Rattle.unit.specs.Claim.{history, since, is_misidentification, misidentified_in, entries_of}
+use Rattle.unit.specs.Claim.{history, since, misidentified_in, entries_of}
 use Rattle.unit.specs.Reached.{replay}
 use Rattle.unit.specs.Take.{taken_of}
 
@@ -14,7 +15,7 @@ TooManySince compound ls = Misidentified (entries_of (residues_of compound) (his
 -- A residue unit answers 08 to the first line with which there is such a window, whatever the charts, and to no other.
 abbrev pub FirstBreaks : Type 0
 FirstBreaks = (compound : ℕ) (ls : List (List ℕ)) (line : List ℕ)
-    → (is_misidentification (taken_of (replay (Residue compound) ls) line).event ≡ true) ↔ (TooManySince compound (ls ++ line ∷ []) × (TooManySince compound ls → ⊥))
+    → ((taken_of (replay (Residue compound) ls) line).event ≡ ByMisidentifications) ↔ (TooManySince compound (ls ++ line ∷ []) × (TooManySince compound ls → ⊥))
 
 -- A line of food chemistry has no misidentifications: there is no such window since admission, and no event 08.
 abbrev pub NoneOfFood : Type 0

@@ -1,6 +1,6 @@
 -- Document 01, "Stages": a study set under way. A set is 36 accepted study lines.
 use Rattle.std.specs.Prelude.{ℕ, suc, Bool, List, get_or, replicate}
-use Rattle.laws.specs.Each.{each_below, any_below, all_below}
+use Rattle.laws.specs.Each.{each_below, all_below}
 use Rattle.difference.specs.Contribution.{ANALYTES}
 use Rattle.unit.specs.Charts.{difference_at}
 use Rattle.study.specs.Study.{no_sums, added_of, passes_of}
@@ -26,7 +26,3 @@ sums_at sums analyte = get_or sums analyte no_sums
 -- each analyte must pass
 abbrev pub passes_set : Constants → Set → Bool
 passes_set c s = all_below c.analytes (λ (a : ℕ). passes_of (sums_at s.sums a))
-
--- Document 02, request Five: a set is marked where the sums of an analyte are.
-abbrev pub marked_set : Constants → Set → Bool
-marked_set c s = any_below c.analytes (λ (a : ℕ). (sums_at s.sums a).marked)

@@ -2,8 +2,8 @@
 use Rattle.std.specs.Prelude.{ℕ, suc, Bool, List, get_or, replicate}
 use Rattle.grounds.specs.Earlier.{before}
 use Rattle.laws.specs.Each.{each_below, any_below}
-use Rattle.difference.specs.Contribution.{CHARTS, contributions_of}
-use Rattle.unit.specs.Charts.{charts_in, no_chart, difference_at, moved_by, is_over}
+use Rattle.difference.specs.Contribution.{CHARTS}
+use Rattle.unit.specs.Charts.{charts_in, no_chart, moved_by, is_over}
 use Rattle.unit.specs.declared.chart.Chart.{Chart}
 use Rattle.difference.specs.declared.constants.Constants.{Constants}
 use Rattle.difference.specs.declared.difference.Difference.{Difference}
@@ -16,10 +16,6 @@ no_samples = record { year = 0; samples = 0; charts = replicate CHARTS no_chart 
 -- the samples of this year's stretch before a sample of the year
 abbrev pub earlier : Stretch → ℕ → ℕ
 earlier s year = before year s.year s.samples
-
--- Document 02, request Five: a sample is marked where the contributions of an analyte are.
-abbrev pub marked_sample : Constants → List Difference → Bool
-marked_sample c ds = any_below c.analytes (λ (a : ℕ). (contributions_of c (difference_at ds a)).marked)
 
 -- after a sample of the year with these differences
 abbrev pub sampled_of : Constants → Stretch → ℕ → List Difference → Stretch

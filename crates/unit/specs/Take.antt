@@ -1,4 +1,4 @@
--- Document 01, "Stages" and rows 8 to 12 of "Refused", and document 02, requests One, Three and Five: a new unit, and what a line does to a unit. The
+-- Document 01, "Stages" and rows 8 to 12 of "Refused", and document 02, requests One and Three: a new unit, and what a line does to a unit. The
 -- definitions of `new_unit`, `new_residue_unit` and `take`.
 use Rattle.std.specs.Prelude.{ℕ, zero, suc, Bool, true, false, cond, not, ◌&&◌, ◌||◌, List, [], ◌∷◌, ◌++◌, leb, ltb, eqb}
 use Rattle.grounds.specs.Earlier.{again, no_counts, latest_of, is_broken}
@@ -8,9 +8,9 @@ use Rattle.difference.specs.declared.category.Category.TheVariants.{Food, Residu
 use Rattle.field.specs.Residue.{no_compound}
 use Rattle.rows.specs.Refusal.{COMPOUND}
 use Rattle.seen.specs.Rules.{Rules, rules_of}
-use Rattle.unit.specs.Set.{empty_set, entered_of, passes_set, marked_set}
+use Rattle.unit.specs.Set.{empty_set, entered_of, passes_set}
 use Rattle.study.specs.Study.{SET}
-use Rattle.unit.specs.Stretch.{FULL, no_samples, sampled_of, marked_sample, any_over}
+use Rattle.unit.specs.Stretch.{FULL, no_samples, sampled_of, any_over}
 use Rattle.unit.specs.declared.Unit as U
 use Rattle.unit.specs.declared.Made.{Made}
 use Rattle.unit.specs.declared.Taken.{Taken}
@@ -137,12 +137,11 @@ missed_by false u month = taken_as Missed u u.stage month u.set u.stretch (recor
 abbrev pub missed_of : U.Unit → Seen → Taken
 missed_of u x = missed_by (again u.misses.last x.month) u x.month
 
--- A sample: by whether it breaks a window of misidentifications, and whether it leaves any chart over. Where both hold the event is 08. Each event has the
--- sample's mark.
-abbrev pub sample_by : Bool → Bool → Bool → U.Unit → ℕ → Stretch → List ℕ → Taken
-sample_by true over marked u month s latest = taken_as (ByMisidentifications marked) u PROBATION month u.set s u.misses latest
-sample_by false true marked u month s latest = taken_as (ByCharts marked) u PROBATION month u.set s u.misses latest
-sample_by false false marked u month s latest = taken_as (Sample marked) u u.stage month u.set s u.misses latest
+-- A sample: by whether it breaks a window of misidentifications, and whether it leaves any chart over. Where both hold the event is 08.
+abbrev pub sample_by : Bool → Bool → U.Unit → ℕ → Stretch → List ℕ → Taken
+sample_by true over u month s latest = taken_as ByMisidentifications u PROBATION month u.set s u.misses latest
+sample_by false true u month s latest = taken_as ByCharts u PROBATION month u.set s u.misses latest
+sample_by false false u month s latest = taken_as Sample u u.stage month u.set s u.misses latest
 
 -- the latest counts after it
 abbrev pub latest_after : U.Unit → Seen → List ℕ
@@ -152,20 +151,20 @@ abbrev pub sample_of : Constants → U.Unit → Seen → Taken
 sample_of c u x =
     let s = sampled_of c u.stretch x.year x.differences in
     let latest = latest_after u x in
-    sample_by (is_broken latest) (any_over c s.charts) (marked_sample c x.differences) u x.month s latest
+    sample_by (is_broken latest) (any_over c s.charts) u x.month s latest
 
--- A set that was judged, by whether it passed, with its mark. Passed is admission, which clears charts, grounds and misses, and the latest counts, which
--- are 0 in food chemistry.
+-- A set that was judged, by whether it passed. Passed is admission, which clears charts, grounds and misses, and the latest counts, which are 0 in food
+-- chemistry.
 abbrev pub failed_stage : ℕ → ℕ
 failed_stage stage = cond (eqb stage APPLICANT) SECOND CLOSED
 
-abbrev pub judged_by : Bool → Bool → U.Unit → ℕ → Taken
-judged_by true marked u month = taken_as (Passed marked) u ACCREDITED month empty_set no_samples no_misses no_counts
-judged_by false marked u month = taken_as (Failed marked) u (failed_stage u.stage) month empty_set u.stretch u.misses u.latest
+abbrev pub judged_by : Bool → U.Unit → ℕ → Taken
+judged_by true u month = taken_as Passed u ACCREDITED month empty_set no_samples no_misses no_counts
+judged_by false u month = taken_as Failed u (failed_stage u.stage) month empty_set u.stretch u.misses u.latest
 
 -- A study line: by whether it is the set's last.
 abbrev pub study_by : Bool → Constants → U.Unit → ℕ → Set → Taken
-study_by true c u month s = judged_by (passes_set c s) (marked_set c s) u month
+study_by true c u month s = judged_by (passes_set c s) u month
 study_by false c u month s = taken_as (UnderWay s.lines) u u.stage month s u.stretch u.misses u.latest
 
 abbrev pub study_of : Constants → U.Unit → Seen → Taken

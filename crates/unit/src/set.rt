@@ -3,8 +3,8 @@ ghost use Rattle.std.specs.Prelude.{◌≡◌, nat_abs, ◌-◌, ◌<◌, ◌≤
 ghost use Rattle.difference.specs.Difference.{CAP};
 ghost use Rattle.laws.specs.Each.{each_below};
 ghost use Rattle.difference.specs.Contribution.{ANALYTES};
-ghost use Rattle.unit.specs.Set.{empty_set, entered_by, entered_of, passes_set, marked_set};
-ghost use Rattle.unit.specs.bounds.Numbers.{SumsBounded, SetBounded, AllBounded, WithinCap};
+ghost use Rattle.unit.specs.Set.{empty_set, entered_by, entered_of, passes_set};
+ghost use Rattle.unit.specs.bounds.Numbers.{SumsBounded, SetBounded, AllBounded, Capped};
 ghost use Rattle.study.specs.Study.{SET, added_of};
 
 use difference::constants::{ANALYTES, Constants};
@@ -32,20 +32,19 @@ pub fn empty_set() -> Set
 // An analyte's sums after one more line of a set that is not full.
 fn add(sums: Sums, d: Difference) -> Sums
     requires { SumsBounded (SET - 1) sums × (nat_abs d.tenths ≤ CAP) }
-    ensures { result ≡ added_of sums d }
+    ensures { result ≡ added_of sums d.tenths }
 {
     let size = size(d.tenths);
     Sums {
         s: sums.s + d.tenths,
         q: sums.q + size * size,
         g: sums.g + measure(size),
-        marked: sums.marked | d.marked,
     }
 }
 
 // The sums after one more line.
 fn add_all(c: Constants, start: [Sums; ANALYTES], d: [Difference; ANALYTES]) -> [Sums; ANALYTES]
-    requires { (c.analytes ≤ ANALYTES) × AllBounded (SET - 1) start × WithinCap d }
+    requires { (c.analytes ≤ ANALYTES) × AllBounded (SET - 1) start × Capped d }
     ensures { result ≡ each_below c.analytes (entered_by d) start }
 {
     let mut sums = start;
@@ -59,7 +58,7 @@ fn add_all(c: Constants, start: [Sums; ANALYTES], d: [Difference; ANALYTES]) -> 
 
 // One more line of a set that is not full.
 pub fn entered(c: Constants, s: Set, d: [Difference; ANALYTES]) -> Set
-    requires { (c.analytes ≤ ANALYTES) × (s.lines < SET) × SetBounded s × WithinCap d }
+    requires { (c.analytes ≤ ANALYTES) × (s.lines < SET) × SetBounded s × Capped d }
     ensures { result ≡ entered_of c s d }
 {
     let old = s.sums;
@@ -83,20 +82,4 @@ pub fn passes_set(c: Constants, s: Set) -> bool
         a += 1;
     }
     good
-}
-
-// Whether a set is marked: the sums of an analyte are.
-pub fn marked_set(c: Constants, s: Set) -> bool
-    requires { c.analytes ≤ ANALYTES }
-    ensures { result ≡ marked_set c s }
-{
-    let sums = s.sums;
-    let mut marked = false;
-    let mut a: usize = 0;
-    while a < c.analytes as usize {
-        let one = sums[a];
-        marked = marked | one.marked;
-        a += 1;
-    }
-    marked
 }

@@ -8,7 +8,7 @@ ghost use Rattle.unit.specs.Stretch.{any_over};
 ghost use Rattle.unit.specs.Take.{closed_in, unit_rows, refused_of, no_misses, taken_as, missed_by, sample_by, failed_stage, judged_by, study_by, taken_seen};
 ghost use Rattle.unit.specs.bounds.Numbers.{Bounded, GoodSeen, LAST_MONTH};
 
-use crate::set::{Set, empty_set, entered, marked_set, passes_set};
+use crate::set::{Set, empty_set, entered, passes_set};
 use crate::stretch::{Stretch, any_over, no_samples, sampled};
 use crate::{Misses, Taken, Unit};
 use counts::{EIGHT, latest_of, no_counts, too_many};
@@ -161,30 +161,38 @@ fn missed_line(u: Unit, month: u32) -> Taken
 }
 
 // Misidentifications come before charts.
-fn sample_line(
-    c: Constants,
-    u: Unit,
-    month: u32,
-    s: Stretch,
-    marked: bool,
-    latest: [u8; EIGHT],
-) -> Taken
+fn sample_line(c: Constants, u: Unit, month: u32, s: Stretch, latest: [u8; EIGHT]) -> Taken
     requires { c.analytes ≤ ANALYTES }
-    ensures { result ≡ sample_by (is_broken latest) (any_over c s.charts) marked u month s latest }
+    ensures { result ≡ sample_by (is_broken latest) (any_over c s.charts) u month s latest }
 {
     let broken = too_many(latest);
     let charts = s.charts;
     let over = any_over(c, charts);
     if broken {
-        let event = Event::ByMisidentifications(marked);
-        return taken(event, u, PROBATION, month, u.set, s, u.misses, latest);
+        return taken(
+            Event::ByMisidentifications,
+            u,
+            PROBATION,
+            month,
+            u.set,
+            s,
+            u.misses,
+            latest,
+        );
     }
     if over {
-        let event = Event::ByCharts(marked);
-        return taken(event, u, PROBATION, month, u.set, s, u.misses, latest);
+        return taken(
+            Event::ByCharts,
+            u,
+            PROBATION,
+            month,
+            u.set,
+            s,
+            u.misses,
+            latest,
+        );
     }
-    let event = Event::Sample(marked);
-    taken(event, u, u.stage, month, u.set, s, u.misses, latest)
+    taken(Event::Sample, u, u.stage, month, u.set, s, u.misses, latest)
 }
 
 // The stage after a failed set.
@@ -196,12 +204,12 @@ fn after_failure(stage: u8) -> u8
 
 // A set that was judged. Passed is admission, which clears charts, grounds and misses, and the latest
 // counts.
-fn judged(u: Unit, month: u32, passed: bool, marked: bool) -> Taken
-    ensures { result ≡ judged_by passed marked u month }
+fn judged(u: Unit, month: u32, passed: bool) -> Taken
+    ensures { result ≡ judged_by passed u month }
 {
     if passed {
         return taken(
-            Event::Passed(marked),
+            Event::Passed,
             u,
             ACCREDITED,
             month,
@@ -214,7 +222,7 @@ fn judged(u: Unit, month: u32, passed: bool, marked: bool) -> Taken
     let stage = after_failure(u.stage);
     let latest = u.latest;
     taken(
-        Event::Failed(marked),
+        Event::Failed,
         u,
         stage,
         month,
@@ -230,7 +238,7 @@ fn study_line(c: Constants, u: Unit, month: u32, set: Set) -> Taken
     ensures { result ≡ study_by (eqb set.lines SET) c u month set }
 {
     if set.lines == LINES {
-        return judged(u, month, passes_set(c, set), marked_set(c, set));
+        return judged(u, month, passes_set(c, set));
     }
     let latest = u.latest;
     taken(
@@ -262,13 +270,11 @@ pub fn take_seen(c: Constants, u: Unit, x: Seen) -> Taken
         return missed_line(u, x.month);
     }
     let before = u.latest;
-    let s = sampled(c, u.stretch, x.year, d);
     sample_line(
         c,
         u,
         x.month,
-        s.stretch,
-        s.marked,
+        sampled(c, u.stretch, x.year, d),
         latest_of(x.count, before),
     )
 }

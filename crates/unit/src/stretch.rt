@@ -3,7 +3,7 @@ ghost use Rattle.std.specs.Prelude.{◌≡◌, ◌<◌, ◌≤◌};
 ghost use Rattle.laws.specs.Each.{each_below};
 ghost use Rattle.difference.specs.Contribution.{ANALYTES};
 ghost use Rattle.unit.specs.Charts.{is_over, moved_by, charts_in};
-ghost use Rattle.unit.specs.Stretch.{no_samples, earlier, sampled_of, marked_sample, any_over, FULL};
+ghost use Rattle.unit.specs.Stretch.{no_samples, earlier, sampled_of, any_over, FULL};
 ghost use Rattle.unit.specs.bounds.Numbers.{StretchBounded, ChartsRoomy};
 
 use crate::chart::{Chart, step};
@@ -17,20 +17,6 @@ pub struct Stretch {
     pub year: u16,
     pub samples: u16,
     pub charts: [Chart; CHARTS],
-}
-
-// The charts after a sample, and the sample's mark: whether the contributions of an analyte are marked.
-#[derive(Drop)]
-struct Moved {
-    charts: [Chart; CHARTS],
-    marked: bool,
-}
-
-// The stretch after a sample, and the sample's mark.
-#[derive(Drop)]
-pub struct NextStretch {
-    pub stretch: Stretch,
-    pub marked: bool,
 }
 
 // No sample since admission: year 0, which no line has.
@@ -52,20 +38,17 @@ fn samples_before(s: Stretch, year: u16) -> u16
     if year == s.year { s.samples } else { 0 }
 }
 
-// The charts after a sample with these differences, where `before` samples stand before it, and its
-// mark.
+// The charts after a sample with these differences, where `before` samples stand before it.
 fn move_charts(
     c: Constants,
     start: [Chart; CHARTS],
     before: u16,
     d: [Difference; ANALYTES],
-) -> Moved
+) -> [Chart; CHARTS]
     requires { (c.analytes ≤ ANALYTES) × (before < FULL) × ChartsRoomy (charts_in c) start }
-    ensures charts { result.charts ≡ each_below (charts_in c) (moved_by c before d) start }
-    ensures marked { result.marked ≡ marked_sample c d }
+    ensures { result ≡ each_below (charts_in c) (moved_by c before d) start }
 {
     let mut charts = start;
-    let mut marked = false;
     let mut a: usize = 0;
     while a < c.analytes as usize {
         let x = contribute(c, d[a]);
@@ -74,29 +57,23 @@ fn move_charts(
         charts[first + 1] = step(charts[first + 1], before, x.n);
         charts[first + 2] = step(charts[first + 2], before, x.v);
         charts[first + 3] = step(charts[first + 3], before, x.d);
-        marked = marked | x.marked;
         a += 1;
     }
-    Moved { charts, marked }
+    charts
 }
 
-// The stretch after a sample, which opens a new one where the year is another, and its mark.
-pub fn sampled(c: Constants, s: Stretch, year: u16, d: [Difference; ANALYTES]) -> NextStretch
+// The stretch after a sample, which opens a new one where the year is another.
+pub fn sampled(c: Constants, s: Stretch, year: u16, d: [Difference; ANALYTES]) -> Stretch
     requires { (c.analytes ≤ ANALYTES) × (earlier s year < FULL) × StretchBounded c s }
-    ensures stretch { result.stretch ≡ sampled_of c s year d }
-    ensures marked { result.marked ≡ marked_sample c d }
+    ensures { result ≡ sampled_of c s year d }
 {
     let before = samples_before(s, year);
     let old = s.charts;
-    let moved = move_charts(c, old, before, d);
-    let charts = moved.charts;
-    NextStretch {
-        stretch: Stretch {
-            year,
-            samples: before + 1,
-            charts,
-        },
-        marked: moved.marked,
+    let charts = move_charts(c, old, before, d);
+    Stretch {
+        year,
+        samples: before + 1,
+        charts,
     }
 }
 

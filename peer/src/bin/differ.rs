@@ -96,8 +96,7 @@ impl Program {
     }
 }
 
-/// How often each event, marked or not, refusal and chart came up, and each stage at an empty line
-/// and at the end.
+/// How often each event, refusal and chart came up, and each stage at an empty line and at the end.
 #[derive(Default)]
 struct Tally(BTreeMap<String, usize>);
 
@@ -108,9 +107,6 @@ impl Tally {
         for (place, line) in printed.into_iter().map(String::from_utf8_lossy).enumerate() {
             let met = match (line.len(), &line[..2]) {
                 (4, "00") => format!("refused {}", &line[2..]),
-                (4, event @ ("01" | "06" | "08")) if line.ends_with("01") => {
-                    format!("event {event} marked")
-                }
                 (4, event) => format!("event {event}"),
                 (STATUS_DIGITS, stage) if Some(place) == end => format!("ended in stage {stage}"),
                 (STATUS_DIGITS, stage) => format!("empty line in stage {stage}"),

@@ -7,8 +7,7 @@ use crate::residue_line::{Fields, FARTHEST, FOUND};
 
 /// A residue line that is to be like this.
 pub fn fields(draft: &Draft, own: Compound, random: &mut Random) -> Fields {
-    // From 1000 on it is capped.
-    let d = draft.differences[0].clamp(-1000, 1000);
+    let d = draft.differences[0].clamp(-999, 999);
     let least = least_apart(own, d.abs());
     let most = least_apart(own, d.abs() + 1) - 1;
     let apart = match random.below(4) {

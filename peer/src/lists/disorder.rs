@@ -8,8 +8,7 @@ use crate::draft::Fields;
 impl Author {
     /// Of the wrong kind, of another month, with a gap, or damaged, or some of these.
     pub(super) fn out_of_order(&mut self) {
-        let most = if self.random.percent(10) { 1500 } else { 30 };
-        let differences = self.differences(most);
+        let differences = self.differences(30);
         let kind = self.any_kind();
         let mut fields = self.draft(kind, differences).fields(&mut self.random);
         if self.random.percent(40) {

@@ -1,7 +1,5 @@
 //! Samples for which a rounding decides: of a percent, of a difference or of a measure.
 
-use std::ops::Range;
-
 use super::Author;
 use crate::category::Kind;
 use crate::charts::KINDS;
@@ -9,7 +7,7 @@ use crate::compound::Compound;
 use crate::draft::food::{edge_mean, halves, percent, s_of, DRY};
 use crate::draft::residue::{least_apart, set_apart};
 use crate::draft::{Draft, Fields};
-use crate::food_line;
+use crate::food_line::{self, ANALYTES};
 use crate::random::Random;
 use crate::residue_line;
 
@@ -37,33 +35,25 @@ impl Author {
     }
 
     fn fine_sample(&mut self, far: bool) {
-        // At 32 and 800 the measure is halfway; 999 is the most, and from 1000 on d is capped.
+        // At 32 and 800 the measure is halfway; 999 is the most.
         let sizes: &[i32] = match far {
-            true => &[300, 350, 400, 500, 650, 800, 999, 1000, 1100],
+            true => &[300, 350, 400, 500, 650, 800, 999, 1100],
             false => &[30, 31, 32, 32, 33, 34, 35, 36, 60],
         };
-        let fields = self.fine_line(Kind::Maintenance, 0..self.analytes(), sizes);
+        let plain = self.draft(Kind::Maintenance, vec![0; self.analytes()]);
+        let mut fields = Draft { exact: true, ..plain }.fields(&mut self.random);
+        match &mut fields {
+            Fields::Food(fields) => self.fine_readings(fields, sizes),
+            Fields::Residue(fields) => self.fine_result(fields, sizes),
+        }
         self.give(&fields.text());
     }
 
-    /// A line in which the |d| of each of these analytes just comes to one of these sizes, or just
-    /// does not. The others are at their means.
-    pub(super) fn fine_line(
-        &mut self,
-        kind: Kind,
-        analytes: Range<usize>,
-        sizes: &[i32],
-    ) -> Fields {
-        let plain = self.draft(kind, vec![0; self.analytes()]);
-        let mut fields = Draft { exact: true, ..plain }.fields(&mut self.random);
-        match &mut fields {
-            Fields::Food(fields) => {
-                fields.product = self.random.pick(&[0, 1, 2, 3, DRY, DRY]);
-                analytes.for_each(|analyte| self.fine_reading(fields, analyte, sizes));
-            }
-            Fields::Residue(fields) => self.fine_result(fields, sizes),
+    fn fine_readings(&mut self, fields: &mut food_line::Fields, sizes: &[i32]) {
+        fields.product = self.random.pick(&[0, 1, 2, 3, DRY, DRY]);
+        for analyte in 0..ANALYTES {
+            self.fine_reading(fields, analyte, sizes);
         }
-        fields
     }
 
     /// A result at which |d| just comes to one of these sizes, or just does not.

@@ -14,7 +14,7 @@ impl Author {
     /// A look may follow any line, another look too.
     pub(super) fn look_after(&mut self, event: Event) {
         let chance = match event {
-            Event::Passed { .. } | Event::Failed { .. } => OFTEN * self.looks,
+            Event::Passed | Event::Failed => OFTEN * self.looks,
             event if event.opens_probation() => OFTEN * self.looks,
             _ => self.looks,
         };

@@ -30,10 +30,7 @@ impl Author {
     }
 
     pub(super) fn missed_line(&mut self) -> Fields {
-        let mut fields = match self.random.percent(50) {
-            true => self.line_at_the_cap(Kind::Maintenance),
-            false => self.at_the_mean(),
-        };
+        let mut fields = self.at_the_mean();
         match self.random.below(3) {
             0 => fields.head().days = 22,
             1 => fields.head().days = 255,

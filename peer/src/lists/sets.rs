@@ -11,7 +11,6 @@ impl Author {
         match self.random.below(10) {
             0..=2 => self.set_at_an_edge(),
             3 if self.random.percent(30) => self.set(|random| random.between(-40, 40)),
-            4 if self.random.percent(30) => self.set_at_the_cap(),
             _ => self.set(|random| random.between(-6, 6)),
         }
         let months = self.random.pick(&[0, 0, 1, 5]);

@@ -80,21 +80,19 @@ impl Author {
             Theme::Full => self.fill(),
             Theme::Sets => self.misses(),
             Theme::Windows => self.windows(),
-            Theme::Shown => match self.random.below(13) {
+            Theme::Shown => match self.random.below(12) {
                 0..=4 => self.fine(),
                 5 | 6 => self.soon_over(),
                 7 => self.misses(),
-                8 => self.at_the_cap(),
                 _ => self.near_a_limit(),
             },
-            Theme::Anything => match self.random.below(10) {
+            Theme::Anything => match self.random.below(8) {
                 0 => self.fine(),
                 1 => self.soon_over(),
                 2 | 3 => self.near_a_limit(),
                 4 => self.drift(),
                 5 => self.misses(),
                 6 => self.calm(),
-                7 | 8 => self.at_the_cap(),
                 _ => self.far_off(),
             },
         }

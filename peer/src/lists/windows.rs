@@ -9,15 +9,13 @@ use crate::draft::Fields;
 const EIGHT: usize = 8;
 /// The number of chart D.
 const D: usize = 3;
-/// As far as d goes, and one tenth more, which is capped.
-const FAR: [i32; 4] = [-1000, -999, 999, 1000];
 
 impl Author {
     /// Clear of the earlier ones a sample with one; then some as close to it and to each other as is
     /// allowed, or one that breaks a window. Now and then the sample that is clear does that, which
     /// may be the very first.
     pub(super) fn windows(&mut self) {
-        let chart = self.random.percent(75).then(|| self.random.below(KINDS));
+        let chart = self.random.percent(85).then(|| self.random.below(KINDS));
         let clear = match self.samples() {
             0 => self.random.pick(&[1, 1, 1, 2, 5, 6, 7, 8, 9]),
             _ => EIGHT + self.random.below(2),
@@ -73,11 +71,10 @@ impl Author {
         self.step(chart, count, false);
     }
 
-    /// The same with one that breaks a window, and often leaves the chart over or, where there is
-    /// none to lead, is far off.
+    /// The same with one that breaks a window, and often leaves the chart over.
     fn too_many(&mut self, chart: Option<usize>, apart: usize, count: u8) {
         self.clean(chart, apart - 1);
-        let over = self.random.percent(if chart.is_some() { 80 } else { 30 });
+        let over = self.random.percent(80);
         self.step(chart, count, over);
     }
 
@@ -85,14 +82,13 @@ impl Author {
         (0..samples).for_each(|_| self.step(chart, 0, false));
     }
 
-    /// A sample that leads the chart to its limit, or over it, or is calm or far off; lines that are
-    /// no samples may follow, and months.
+    /// A sample that leads the chart to its limit, or over it, or is calm; lines that are no samples
+    /// may follow, and months.
     fn step(&mut self, chart: Option<usize>, count: u8, over: bool) {
         if !self.accredited() {
             return;
         }
         let d = match chart {
-            None if over || (count > 0 && self.random.percent(50)) => self.random.pick(&FAR),
             None => self.random.between(-4, 4),
             Some(chart) if over => self.difference_over(chart),
             Some(chart) => self.difference_short_of_over(chart),
@@ -114,7 +110,7 @@ impl Author {
     fn difference_over(&mut self, chart: usize) -> i32 {
         let limit = self.category().turns().limit(chart);
         match chart {
-            D => self.random.pick(&FAR),
+            D => self.random.pick(&[-999, 999]),
             _ => self.difference_that_adds(chart, limit + 1 - self.unit.values()[chart]),
         }
     }

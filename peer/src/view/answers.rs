@@ -2,7 +2,7 @@
 
 use crate::category::MOST_CHARTS;
 use crate::charts::{Over, Run};
-use crate::program::{lines, write_status, Answer};
+use crate::program::{lines, write_answer, write_status, Answer};
 use crate::refused::Refusal;
 use crate::unit::{Event, Stage, Status};
 
@@ -40,7 +40,8 @@ impl Answers {
     }
 
     fn text(&self) -> Vec<u8> {
-        let mut text: Vec<u8> = self.each.iter().flat_map(Answer::text).collect();
+        let mut text = Vec::new();
+        self.each.iter().for_each(|answer| write_answer(answer, &mut text));
         write_status(&self.status, &mut text);
         text
     }
@@ -58,20 +59,18 @@ fn status<'a>(printed: &mut impl Iterator<Item = &'a [u8]>) -> Option<Status> {
     })
 }
 
-/// A set's mark is not printed, so here none has one.
 fn event(line: &[u8]) -> Option<Event> {
     let number = number(line, 2..4)?;
-    let marked = number == 1;
     Some(match line.get(..2)? {
         b"00" => Event::Refused(refusal(number)?),
-        b"01" => Event::Sample { marked },
+        b"01" => Event::Sample,
         b"02" => Event::Missed,
         b"03" => Event::UnderWay(number as u8),
-        b"04" => Event::Passed { marked: false },
-        b"05" => Event::Failed { marked: false },
-        b"06" => Event::ProbationByCharts { marked },
+        b"04" => Event::Passed,
+        b"05" => Event::Failed,
+        b"06" => Event::ProbationByCharts,
         b"07" => Event::ProbationByMisses,
-        b"08" => Event::ProbationByWindows { marked },
+        b"08" => Event::ProbationByWindows,
         _ => return None,
     })
 }
@@ -106,7 +105,7 @@ mod tests {
         let output = b"0600\n03000c010000\n080001000c00000035\n";
         let answers = parse(output, &[LINE]).unwrap();
         let run = Run { first: 1, last: 12, sum: 53 };
-        assert_eq!(answers.each, [Answer::Event(Event::ProbationByCharts { marked: false })]);
+        assert_eq!(answers.each, [Answer::Event(Event::ProbationByCharts)]);
         assert_eq!(answers.status.over, [Over { chart: 8, run }]);
         assert_eq!(parse(output, &[]), None);
         assert_eq!(parse(output, &[LINE, LINE]), None);
@@ -115,22 +114,6 @@ mod tests {
         assert_eq!(parse(&output[..output.len() - 1], &[LINE]), None);
         assert_eq!(parse(b"0600\n03000c010000\n", &[LINE]), None);
         assert_eq!(parse(b"0013\n000000000000\n", &[LINE]), None);
-    }
-
-    #[test]
-    fn only_a_sample_has_a_mark() {
-        let read = |number: &str| {
-            let answers = parse(format!("{number}\n020000000000\n").as_bytes(), &[LINE]);
-            answers.map(|answers| answers.each)
-        };
-        let event = |event: Event| Some(vec![Answer::Event(event)]);
-        assert_eq!(read("0100"), event(Event::Sample { marked: false }));
-        assert_eq!(read("0101"), event(Event::Sample { marked: true }));
-        assert_eq!(read("0601"), event(Event::ProbationByCharts { marked: true }));
-        assert_eq!(read("0801"), event(Event::ProbationByWindows { marked: true }));
-        for spoiled in ["0102", "0201", "0401", "0501", "0602", "0701", "0810"] {
-            assert_eq!(read(spoiled), None, "{spoiled}");
-        }
     }
 
     #[test]

@@ -1,10 +1,8 @@
 //! What a list of lines came to: admissions, the stretches since each, and what opened probation.
 
 use crate::category::Category;
-use crate::charts::{Over, KINDS};
-use crate::difference::Derived;
+use crate::charts::Over;
 use crate::fast::Unit;
-use crate::food_line::ANALYTES;
 use crate::program::{answer, Answer};
 use crate::refused::Refusal;
 use crate::unit::{Event, Stage, Status};
@@ -12,18 +10,16 @@ use crate::view::answers::Answers;
 
 /// A line of the list, numbered from 1 with the empty ones, and its date.
 #[derive(Clone, Copy, Debug, PartialEq, Eq)]
-pub struct Place {
+pub struct Mark {
     pub line: usize,
     pub year: u16,
     pub month: u8,
 }
 
 pub struct Sample {
-    pub place: Place,
+    pub mark: Mark,
     /// Each chart after this sample.
     pub values: Vec<i32>,
-    /// By analyte, whether its difference is marked.
-    pub marked: [bool; ANALYTES],
 }
 
 pub struct Stretch {
@@ -42,10 +38,10 @@ pub enum Ground {
 /// One admission and all until the next.
 pub struct Admission {
     /// None for a unit that starts accredited.
-    pub place: Option<Place>,
+    pub mark: Option<Mark>,
     pub stretches: Vec<Stretch>,
-    pub misses: Vec<Place>,
-    pub probation: Option<(Place, Ground)>,
+    pub misses: Vec<Mark>,
+    pub probation: Option<(Mark, Ground)>,
 }
 
 pub struct History {
@@ -58,34 +54,14 @@ pub struct History {
     pub status: Status,
 }
 
-impl History {
-    /// Whether a sample is marked.
-    pub fn any_marked(&self) -> bool {
-        let mut stretches = self.admissions.iter().flat_map(|admission| &admission.stretches);
-        stretches.any(|stretch| stretch.samples.iter().any(Sample::any_marked))
-    }
-}
-
-impl Sample {
-    pub fn any_marked(&self) -> bool {
-        self.marked.contains(&true)
-    }
-}
-
 impl Stretch {
     pub fn year(&self) -> u16 {
-        self.samples[0].place.year
+        self.samples[0].mark.year
     }
 
     /// One chart after each sample.
     pub fn values(&self, chart: usize) -> Vec<i32> {
         self.samples.iter().map(|sample| sample.values[chart]).collect()
-    }
-
-    /// The numbers of the samples whose difference for a chart is marked.
-    pub fn marked(&self, chart: usize) -> Vec<usize> {
-        let numbered = (1..).zip(&self.samples);
-        numbered.filter(|(_, own)| own.marked[chart / KINDS]).map(|(sample, _)| sample).collect()
     }
 
     pub fn run(&self, chart: usize) -> Option<crate::charts::Run> {
@@ -95,7 +71,7 @@ impl Stretch {
 
 /// Goes through the list with the program's answers. `status_after` asks the program for its
 /// status after the first lines of the list, so that runs of earlier admissions are its own too.
-/// The peer takes the same lines for the values and must print the same.
+/// The peer takes the same lines for the values and must answer alike.
 pub fn history(
     category: Category,
     list: &[&[u8]],
@@ -109,19 +85,18 @@ pub fn history(
     }
     for (line, (text, theirs)) in (1..).zip(list.iter().zip(&answers.each)) {
         let own = answer(&mut peer, text);
-        if own.text() != theirs.text() {
+        if own != *theirs {
             return Err(format!("line {line}: the program and the peer differ; see peer/check"));
         }
         let Some(event) = accepted(own) else { continue };
         let (year, month) = peer.last_date();
-        let place = Place { line, year, month };
-        if matches!(event, Event::Passed { .. }) {
-            admissions.push(Admission::new(Some(place)));
+        let mark = Mark { line, year, month };
+        if event == Event::Passed {
+            admissions.push(Admission::new(Some(mark)));
         }
         let Some(admission) = admissions.last_mut() else { continue };
-        let (values, marked) = (peer.values().to_vec(), marked(category, text));
-        admission.take(event, Sample { place, values, marked });
-        if matches!(event, Event::ProbationByCharts { .. } | Event::ProbationByWindows { .. }) {
+        admission.take(event, Sample { mark, values: peer.values().to_vec() });
+        if matches!(event, Event::ProbationByCharts | Event::ProbationByWindows) {
             admission.name(status_after(line)?);
         }
     }
@@ -133,13 +108,6 @@ pub fn history(
     Ok(History { category, lines, refused, admissions, status })
 }
 
-/// By analyte, whether the difference of a line is marked; a missed line has none.
-fn marked(category: Category, text: &[u8]) -> [bool; ANALYTES] {
-    let seen = category.see(text, &Derived).ok();
-    let differences = seen.and_then(|seen| seen.differences).unwrap_or_default();
-    differences.map(|own| own.marked)
-}
-
 /// The event of a line that was taken.
 fn accepted(answer: Answer) -> Option<Event> {
     match answer {
@@ -149,27 +117,27 @@ fn accepted(answer: Answer) -> Option<Event> {
 }
 
 impl Admission {
-    fn new(place: Option<Place>) -> Admission {
-        Admission { place, stretches: Vec::new(), misses: Vec::new(), probation: None }
+    fn new(mark: Option<Mark>) -> Admission {
+        Admission { mark, stretches: Vec::new(), misses: Vec::new(), probation: None }
     }
 
     /// A line that was taken. What it did to the charts counts only if it is a sample.
     fn take(&mut self, event: Event, line: Sample) {
-        let place = line.place;
+        let mark = line.mark;
         match event {
-            Event::Sample { .. } => self.add(line),
-            Event::ProbationByCharts { .. } => {
+            Event::Sample => self.add(line),
+            Event::ProbationByCharts => {
                 self.add(line);
-                self.probation = Some((place, Ground::Charts));
+                self.probation = Some((mark, Ground::Charts));
             }
-            Event::ProbationByWindows { .. } => {
+            Event::ProbationByWindows => {
                 self.add(line);
-                self.probation = Some((place, Ground::Misidentifications));
+                self.probation = Some((mark, Ground::Misidentifications));
             }
-            Event::Missed => self.misses.push(place),
+            Event::Missed => self.misses.push(mark),
             Event::ProbationByMisses => {
-                self.misses.push(place);
-                self.probation = Some((place, Ground::Misses));
+                self.misses.push(mark);
+                self.probation = Some((mark, Ground::Misses));
             }
             _ => {}
         }
@@ -177,7 +145,7 @@ impl Admission {
 
     fn add(&mut self, sample: Sample) {
         match self.stretches.last_mut() {
-            Some(stretch) if stretch.year() == sample.place.year => stretch.samples.push(sample),
+            Some(stretch) if stretch.year() == sample.mark.year => stretch.samples.push(sample),
             _ => self.stretches.push(Stretch { samples: vec![sample], over: Vec::new() }),
         }
     }
@@ -246,7 +214,7 @@ pub mod tests {
         let input = include_bytes!("../../../crates/case_residue_charts/stdin");
         let history = of_case_in(Category::tested_residue(), input);
         let [admission] = &history.admissions[..] else { panic!("one admission") };
-        assert_eq!(admission.place, None);
+        assert_eq!(admission.mark, None);
         let years: Vec<u16> = admission.stretches.iter().map(Stretch::year).collect();
         assert_eq!(years, [2012, 2013, 2014]);
         let last = &admission.stretches[2];
@@ -261,51 +229,16 @@ pub mod tests {
         let probation = |input: &[u8]| {
             let history = of_case_in(Category::tested_residue(), input);
             let [admission] = &history.admissions[..] else { panic!("one admission") };
-            let (place, ground) = admission.probation.unwrap();
+            let (mark, ground) = admission.probation.unwrap();
             assert_eq!(ground, Ground::Misidentifications);
             let last = admission.stretches.last().unwrap();
-            (place.line, last.samples.len(), last.over.clone())
+            (mark.line, last.samples.len(), last.over.clone())
         };
         let two = probation(include_bytes!("../../../crates/case_residue_two/stdin"));
         assert_eq!(two, (19, 12, vec![]));
         let run = Run { first: 1, last: 4, sum: 49 };
         let both = probation(include_bytes!("../../../crates/case_residue_both/stdin"));
         assert_eq!(both, (7, 4, vec![Over { chart: 0, run }]));
-    }
-
-    /// The numbers of the marked samples, by analyte.
-    fn marked(stretch: &Stretch, analytes: usize) -> Vec<Vec<usize>> {
-        (0..analytes).map(|analyte| stretch.marked(KINDS * analyte)).collect()
-    }
-
-    #[test]
-    fn samples_are_marked_by_analyte() {
-        let history = of_case(include_bytes!("../../../crates/case_marked/stdin"));
-        assert!(history.any_marked());
-        let [year_2012, year_2013, year_2014] = &history.admissions[0].stretches[..] else {
-            panic!("three years")
-        };
-        assert_eq!(marked(year_2012, 4), [[0; 0]; 4]);
-        assert_eq!(marked(year_2013, 4), [[3], [4], [1], [5]]);
-        assert_eq!(marked(year_2014, 4), [vec![1], vec![], vec![3, 4], vec![1]]);
-        let input = include_bytes!("../../../crates/case_residue_marked/stdin");
-        let history = of_case_in(Category::tested_residue(), input);
-        let years: Vec<Vec<Vec<usize>>> =
-            history.admissions[0].stretches.iter().map(|stretch| marked(stretch, 1)).collect();
-        assert_eq!(years, [[vec![]], [vec![1]], [vec![1, 2]]]);
-        assert!(!of_case(include_bytes!("../../../crates/case_january/stdin")).any_marked());
-    }
-
-    #[test]
-    fn a_mark_that_differs_is_not_drawn() {
-        let list: [&[u8]; 1] = [b"0307dc010a04d8f100270700"];
-        let said = |output: &[u8]| {
-            let answers = parse(output, &list).unwrap();
-            history(Category::tested_residue(), &list, &answers, &mut |_| Err("not asked".into()))
-        };
-        assert!(said(b"0101\n020001000000\n").is_ok());
-        let error = said(b"0100\n020001000000\n").err().unwrap();
-        assert!(error.starts_with("line 1: "), "{error}");
     }
 
     #[test]

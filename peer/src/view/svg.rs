@@ -30,8 +30,7 @@ text{font-family:'DejaVu Sans',Arial,Helvetica,sans-serif;font-size:12px;fill:#0
 .tick{stroke:#000;stroke-width:1}\
 .curve{fill:none;stroke:#000;stroke-width:1.1}\
 .run{fill:none;stroke:#000;stroke-width:3.2;stroke-linejoin:round}\
-.open{fill:#fff;stroke:#000;stroke-width:1.2}.full{fill:#000}\
-.capped{fill:none;stroke:#000;stroke-width:1.6}";
+.open{fill:#fff;stroke:#000;stroke-width:1.2}.full{fill:#000}";
 
 /// The whole picture.
 pub fn picture(name: &str, program: &str, history: &History) -> Result<String, fmt::Error> {
@@ -45,10 +44,6 @@ pub fn picture(name: &str, program: &str, history: &History) -> Result<String, f
         for stretch in &admission.stretches {
             write_text(&mut body, (MARGIN, y + 8.0), "h3", &stretch_title(stretch))?;
             y += LINE;
-            if let Some(capped) = words::capped(history.category, stretch) {
-                write_text(&mut body, (MARGIN, y + 8.0), "plain", &capped)?;
-                y += LINE;
-            }
             panels(&mut body, y, history.category, stretch)?;
             y += PANEL.1 * history.category.analytes() as f64 + LINE;
         }
@@ -66,7 +61,7 @@ pub fn picture(name: &str, program: &str, history: &History) -> Result<String, f
     Ok(page)
 }
 
-/// Title, status, what the signs mean and where the figures come from. Gives the y below it.
+/// Title, status, what the marks mean and where the figures come from. Gives the y below it.
 fn heading(
     out: &mut String,
     name: &str,
@@ -75,9 +70,9 @@ fn heading(
 ) -> Result<f64, fmt::Error> {
     let mut said = vec![words::title(name, history), words::status(&history.status)];
     said.push(words::lines_taken(history));
-    said.extend(words::sources(program, history));
+    said.extend(words::sources(program));
     let y = paragraphs(out, MARGIN + 16.0, &said, "h1")? + 8.0;
-    legend(out, y, history.any_marked())?;
+    legend(out, y)?;
     Ok(y + LINE)
 }
 
@@ -92,8 +87,8 @@ fn paragraphs(out: &mut String, y: f64, said: &[String], title: &str) -> Result<
     Ok(y)
 }
 
-/// One of each sign with its meaning, that of a capped difference where there is one.
-fn legend(out: &mut String, y: f64, capped: bool) -> fmt::Result {
+/// One of each mark with its meaning.
+fn legend(out: &mut String, y: f64) -> fmt::Result {
     let middle = y - 4.0;
     let mut x = MARGIN;
     write_line(out, "curve", (x, middle), (x + 40.0, middle))?;
@@ -109,14 +104,7 @@ fn legend(out: &mut String, y: f64, capped: bool) -> fmt::Result {
     write_rect(out, "band", (x, middle - 9.0), (46.0, 18.0))?;
     write_line(out, "run", (x + 4.0, middle), (x + 42.0, middle))?;
     full_marker(out, (x + 23.0, middle))?;
-    write_text(out, (x + 54.0, y), "plain", "run shown for a chart that is over (thick frame)")?;
-    if !capped {
-        return Ok(());
-    }
-    x += 430.0;
-    open_marker(out, (x, middle))?;
-    capped_marker(out, (x, middle))?;
-    write_text(out, (x + 16.0, y), "plain", words::CAPPED)
+    write_text(out, (x + 54.0, y), "plain", "run shown for a chart that is over (thick frame)")
 }
 
 /// A long stretch says how it is drawn.
@@ -164,9 +152,6 @@ fn panel(
     write_text(out, (plot.right() + 5.0, limit_y - 2.0), "", "limit")?;
     write_text(out, (plot.right() + 5.0, limit_y + 11.0), "", &limit.to_string())?;
     curve(out, &plot, &values, run)?;
-    for sample in stretch.marked(chart) {
-        capped_marker(out, (plot.x(sample), plot.y(values[sample - 1])))?;
-    }
     let frame = if run.is_some() { "frame over" } else { "frame" };
     write_rect(out, frame, (plot.left, plot.top), (plot.width, plot.height))
 }
@@ -228,11 +213,6 @@ fn full_marker(out: &mut String, (x, y): (f64, f64)) -> fmt::Result {
     write_rect(out, "full", (x - 4.0, y - 4.0), (8.0, 8.0))
 }
 
-/// Around another marker, which it leaves to be seen.
-fn capped_marker(out: &mut String, (x, y): (f64, f64)) -> fmt::Result {
-    writeln!(out, r#"<circle class="capped" cx="{x:.1}" cy="{y:.1}" r="6.4"/>"#)
-}
-
 fn polyline(out: &mut String, class: &str, points: &[(f64, f64)]) -> fmt::Result {
     write!(out, r#"<polyline class="{class}" points=""#)?;
     points.iter().try_for_each(|(x, y)| write!(out, "{x:.1},{y:.1} "))?;
@@ -287,19 +267,6 @@ mod tests {
         assert_eq!(picture.matches(">sample number<").count(), 4);
         assert!(picture.contains("OVER: run 1 to 4, sum 52"));
         assert!(picture.contains(">DDT D (03)<"));
-    }
-
-    /// Three samples in four charts each, and the legend has one of its own.
-    #[test]
-    fn capped_samples_are_marked() {
-        let input = include_bytes!("../../../crates/case_residue_marked/stdin");
-        let history = of_case_in(Category::tested_residue(), input);
-        let picture = picture("marked", "the peer", &history).unwrap();
-        assert_eq!(picture.matches(r#"class="capped""#).count(), 1 + 3 * 4);
-        assert_eq!(picture.matches(words::CAPPED).count(), 1);
-        assert!(picture.contains(">Capped at 99.9: sample 1 (DDT), sample 2 (DDT).<"));
-        let none = of("january", include_bytes!("../../../crates/case_january/stdin"));
-        assert!(!none.contains(r#"class="capped""#) && !none.contains(words::CAPPED));
     }
 
     #[test]

@@ -20,14 +20,13 @@ pub fn page(name: &str, program: &str, history: &History) -> String {
     let category = history.category;
     let mut lines = vec![words::title(name, history), words::status(&history.status)];
     lines.push(words::lines_taken(history));
-    lines.extend(words::sources(program, history));
-    lines.push(legend(history));
+    lines.extend(words::sources(program));
+    lines.push("Marks: o value after a sample, # the run shown, - limit, . 0.".into());
     for (number, admission) in (1..).zip(&history.admissions) {
         lines.push(String::new());
         lines.extend(words::admission(number, admission));
         for stretch in &admission.stretches {
             lines.extend([String::new(), stretch_title(stretch)]);
-            lines.extend(words::capped(category, stretch));
             for chart in (0..category.charts()).step_by(2) {
                 let [left, right] = [chart, chart + 1].map(|chart| panel(category, stretch, chart));
                 lines.push(String::new());
@@ -36,15 +35,6 @@ pub fn page(name: &str, program: &str, history: &History) -> String {
         }
     }
     lines.iter().map(|line| folded(line.trim_end()) + "\n").collect()
-}
-
-/// The signs and their meanings, that of a capped difference where there is one.
-fn legend(history: &History) -> String {
-    let signs = "Signs: o value after a sample, # the run shown, - limit, . 0";
-    match history.any_marked() {
-        true => format!("{signs}, x (in the run X) {}.", words::CAPPED),
-        false => format!("{signs}."),
-    }
 }
 
 /// A long stretch says how it is drawn.
@@ -87,7 +77,7 @@ fn panel(category: Category, stretch: &Stretch, chart: usize) -> Vec<String> {
     let grid = Grid::new(&values, category.turns().limit(chart));
     let title = format!("{}, value in {}", words::chart(category, chart), words::unit(chart));
     let mut lines = vec![title, words::outcome(stretch, chart)];
-    let cells = grid.cells(&values, stretch.run(chart), &stretch.marked(chart));
+    let cells = grid.cells(&values, stretch.run(chart));
     for (row, cells) in cells.iter().enumerate().rev() {
         let label = grid.label(row).map(|value| value.to_string()).unwrap_or_default();
         lines.push(format!("{label:>6} |{}", cells.iter().collect::<String>()));
@@ -136,22 +126,14 @@ impl Grid {
         [self.limit, 0, self.lowest].into_iter().find(|&value| self.row(value) == row)
     }
 
-    /// Where samples share a cell, it tells of each that is in the run or capped.
-    fn cells(&self, values: &[i32], run: Option<Run>, capped: &[usize]) -> Vec<Vec<char>> {
+    fn cells(&self, values: &[i32], run: Option<Run>) -> Vec<Vec<char>> {
         let mut cells = vec![vec![' '; COLUMNS]; BELOW + 1 + ABOVE];
         cells[self.row(0)].fill('.');
         cells[BELOW].fill('-');
         for (sample, &value) in (1..).zip(values) {
             let in_run = run.is_some_and(|run| (run.first..=run.last).contains(&sample));
             let cell = &mut cells[self.row(value)][self.column(sample)];
-            let in_run = in_run || "#X".contains(*cell);
-            let capped = capped.contains(&sample) || "xX".contains(*cell);
-            *cell = match (in_run, capped) {
-                (false, false) => 'o',
-                (true, false) => '#',
-                (false, true) => 'x',
-                (true, true) => 'X',
-            };
+            *cell = if in_run || *cell == '#' { '#' } else { 'o' };
         }
         cells
     }
@@ -172,7 +154,6 @@ impl Grid {
 #[cfg(test)]
 mod tests {
     use super::*;
-    use crate::view::history::tests::of_case;
 
     #[test]
     fn no_value_is_on_the_wrong_side_of_the_limit() {
@@ -190,48 +171,13 @@ mod tests {
         let values = [-20, 0, 2, 0, 20, 40, 53];
         let run = Run { first: 5, last: 7, sum: 53 };
         let grid = Grid::new(&values, 52);
-        let cells = grid.cells(&values, Some(run), &[]);
+        let cells = grid.cells(&values, Some(run));
         for (sample, &value) in (1..).zip(&values) {
             let expected = if sample >= 5 { '#' } else { 'o' };
             assert_eq!(cells[grid.row(value)][grid.column(sample)], expected, "sample {sample}");
         }
         let marked = cells.iter().flatten().filter(|&&cell| cell == '#').count();
         assert_eq!(marked, 3);
-    }
-
-    #[test]
-    fn capped_samples_have_signs_of_their_own() {
-        let values = [20, 0, 20, 53];
-        let run = Run { first: 3, last: 4, sum: 53 };
-        let grid = Grid::new(&values, 52);
-        let cells = grid.cells(&values, Some(run), &[1, 4]);
-        for (sample, (&value, expected)) in (1..).zip(values.iter().zip(['x', 'o', '#', 'X'])) {
-            assert_eq!(cells[grid.row(value)][grid.column(sample)], expected, "sample {sample}");
-        }
-    }
-
-    /// All in one column: neither the run nor the mark is lost.
-    #[test]
-    fn a_shared_cell_keeps_its_signs() {
-        let values = [0; 999];
-        let run = Some(Run { first: 2, last: 3, sum: 0 });
-        let cell = |run: Option<Run>, capped: &[usize]| {
-            let grid = Grid::new(&values, 52);
-            grid.cells(&values, run, capped)[grid.row(0)][0]
-        };
-        assert_eq!([cell(None, &[]), cell(None, &[4]), cell(run, &[])], ['o', 'x', '#']);
-        assert_eq!([cell(run, &[1]), cell(run, &[2]), cell(run, &[4])], ['X'; 3]);
-    }
-
-    #[test]
-    fn only_a_page_with_capped_samples_says_so() {
-        let marked = of_case(include_bytes!("../../../crates/case_marked/stdin"));
-        let page = page("marked", "the peer", &marked);
-        assert!(page.contains("x (in the run X)\n  capped: the difference rounds to more than 99.9.\n"));
-        assert!(page.contains("Capped at 99.9: sample 1 (Moisture, Salt), sample 3 (Fat), "));
-        assert!(page.lines().all(|line| line.chars().count() <= PAGE));
-        let none = of_case(include_bytes!("../../../crates/case_january/stdin"));
-        assert!(!super::page("january", "the peer", &none).contains("apped"));
     }
 
     #[test]

@@ -4,7 +4,7 @@ use crate::category::Category;
 use crate::charts::KINDS;
 use crate::program::{lines, write_status};
 use crate::unit::{Stage, Status};
-use crate::view::history::{Admission, Ground, History, Place, Sample, Stretch};
+use crate::view::history::{Admission, Ground, History, Mark, Stretch};
 
 const ANALYTES: [&str; 4] = ["Moisture", "Protein", "Fat", "Salt"];
 const LETTERS: [&str; KINDS] = ["P", "N", "V", "D"];
@@ -33,17 +33,13 @@ pub fn title(name: &str, history: &History) -> String {
     }
 }
 
-/// Analyte or compound.
-fn analyte(category: Category, analyte: usize) -> &'static str {
-    match category {
-        Category::Food => ANALYTES[analyte],
-        Category::Residue(own) => own.name(),
-    }
-}
-
 /// Analyte or compound, letter, and the chart's number as the status prints it.
 pub fn chart(category: Category, chart: usize) -> String {
-    format!("{} {} ({chart:02x})", analyte(category, chart / KINDS), LETTERS[chart % KINDS])
+    let analyte = match category {
+        Category::Food => ANALYTES[chart / KINDS],
+        Category::Residue(own) => own.name(),
+    };
+    format!("{analyte} {} ({chart:02x})", LETTERS[chart % KINDS])
 }
 
 /// What a chart's value is counted in.
@@ -64,12 +60,12 @@ pub fn outcome(stretch: &Stretch, chart: usize) -> String {
     format!("last {}, highest {highest}", values.last().copied().unwrap_or_default())
 }
 
-fn month(place: Place) -> &'static str {
-    MONTHS[usize::from(place.month) - 1]
+fn month(mark: Mark) -> &'static str {
+    MONTHS[usize::from(mark.month) - 1]
 }
 
-fn date(place: Place) -> String {
-    format!("{} {}", month(place), place.year)
+fn date(mark: Mark) -> String {
+    format!("{} {}", month(mark), mark.year)
 }
 
 fn counted(number: usize, word: &str) -> String {
@@ -82,26 +78,11 @@ fn counted(number: usize, word: &str) -> String {
 pub fn stretch(stretch: &Stretch) -> String {
     let samples = &stretch.samples;
     let count = counted(samples.len(), "sample");
-    let (first, last) = (samples[0].place, samples[samples.len() - 1].place);
+    let (first, last) = (samples[0].mark, samples[samples.len() - 1].mark);
     match first.month == last.month {
         true => format!("Year {}: {count}, {}", stretch.year(), month(first)),
         false => format!("Year {}: {count}, {} to {}", stretch.year(), month(first), month(last)),
     }
-}
-
-/// What a mark means.
-pub const CAPPED: &str = "capped: the difference rounds to more than 99.9";
-
-/// The samples of a stretch that are marked and by which analytes, where there are any.
-pub fn capped(category: Category, stretch: &Stretch) -> Option<String> {
-    let numbered = (1..).zip(&stretch.samples).filter(|(_, sample)| sample.any_marked());
-    let said = |(number, sample): (usize, &Sample)| {
-        let own = (0..category.analytes()).filter(|&own| sample.marked[own]);
-        let names: Vec<&str> = own.map(|own| analyte(category, own)).collect();
-        format!("sample {number} ({})", names.join(", "))
-    };
-    let each: Vec<String> = numbered.map(said).collect();
-    (!each.is_empty()).then(|| format!("Capped at 99.9: {}.", last_few(&each)))
 }
 
 fn word(ground: Ground) -> &'static str {
@@ -114,14 +95,14 @@ fn word(ground: Ground) -> &'static str {
 
 /// Number of the admission, its date, and what came of it.
 pub fn admission(number: usize, admission: &Admission) -> Vec<String> {
-    let title = match admission.place {
-        Some(place) => format!("Admission {number}: line {}, {}", place.line, date(place)),
+    let title = match admission.mark {
+        Some(mark) => format!("Admission {number}: line {}, {}", mark.line, date(mark)),
         None => "Accredited from the start".into(),
     };
     let probation = match admission.probation {
         None => "No probation.".into(),
-        Some((place, ground)) => {
-            format!("Probation by {}: line {}, {}.", word(ground), place.line, date(place))
+        Some((mark, ground)) => {
+            format!("Probation by {}: line {}, {}.", word(ground), mark.line, date(mark))
         }
     };
     let samples = match admission.stretches.is_empty() {
@@ -131,24 +112,19 @@ pub fn admission(number: usize, admission: &Admission) -> Vec<String> {
     vec![title, format!("{probation} {}{samples}", misses(&admission.misses))]
 }
 
-/// Misses by their dates.
-fn misses(misses: &[Place]) -> String {
+/// The last few misses by their dates.
+fn misses(misses: &[Mark]) -> String {
+    const SHOWN: usize = 6;
     if misses.is_empty() {
         return "No missed lines.".into();
     }
-    let dates: Vec<String> = misses.iter().map(|&place| date(place)).collect();
-    format!("Missed: {}.", last_few(&dates))
-}
-
-/// The last few, and how many come before them.
-fn last_few(each: &[String]) -> String {
-    const SHOWN: usize = 6;
-    let earlier = each.len().saturating_sub(SHOWN);
+    let earlier = misses.len().saturating_sub(SHOWN);
+    let dates: Vec<String> = misses[earlier..].iter().map(|&mark| date(mark)).collect();
     let before = match earlier {
         0 => String::new(),
         _ => format!("{earlier} earlier, "),
     };
-    before + &each[earlier..].join(", ")
+    format!("Missed: {before}{}.", dates.join(", "))
 }
 
 /// How many lines there were, empty ones aside, and how often each refusal was given.
@@ -193,13 +169,10 @@ pub fn status(status: &Status) -> String {
 }
 
 /// Where the figures come from.
-pub fn sources(program: &str, history: &History) -> [String; 2] {
-    let own = match history.any_marked() {
-        true => "Values after each sample and capped analytes",
-        false => "Values after each sample",
-    };
+pub fn sources(program: &str) -> [String; 2] {
     [
         format!("Events, status, charts over and their runs: printed by {program}."),
-        format!("{own}: worked out by the peer, whose events and status are the same."),
+        "Values after each sample: worked out by the peer, whose events and status are the same."
+            .into(),
     ]
 }

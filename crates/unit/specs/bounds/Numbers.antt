@@ -17,9 +17,9 @@ use Rattle.unit.specs.declared.set.Set.{Set}
 use Rattle.unit.specs.declared.stretch.Stretch.{Stretch}
 use Rattle.study.specs.declared.Sums.{Sums}
 
--- no difference is larger than the cap
-abbrev pub WithinCap : List Difference → Type 0
-WithinCap ds = (a : ℕ) → nat_abs (difference_at ds a).tenths ≤ CAP
+-- differences are capped
+abbrev pub Capped : List Difference → Type 0
+Capped ds = (a : ℕ) → nat_abs (difference_at ds a) ≤ CAP
 
 -- a line that reads: its month is one of its year, which is one of a line's
 pub record GoodSeen (x : Seen) : Type 0 where
@@ -27,7 +27,7 @@ pub record GoodSeen (x : Seen) : Type 0 where
   pub late : x.year ≤ LAST_YEAR
   pub month : 12 * x.year < x.month
   pub december : x.month ≤ 12 * x.year + 12
-  pub within : WithinCap x.differences
+  pub capped : Capped x.differences
 
 -- the first n charts after so many samples of a stretch
 abbrev pub ChartsBounded : ℕ → ℕ → List Chart → Type 0

@@ -83,7 +83,7 @@ pub fn beginning(head: Head, fields: Fields) -> Fields {
 fn reading_with(analyte: usize, mean: u16, d: i32) -> u16 {
     let product = Product::new(FIELDS.product).expect("the plain product");
     let s = value(product, analyte, mean, &Derived);
-    let fits = |reading: &u16| difference(*reading, mean, s).d == d;
+    let fits = |reading: &u16| difference(*reading, mean, s) == d;
     let found = match d {
         0.. => (mean..=10_000).find(fits),
         _ => (0..mean).rev().find(fits),

@@ -56,7 +56,7 @@ fn assert_hidden(case: &Case) {
         for line in split(&case.input).take(*lines) {
             unit.take(line);
         }
-        let own: Vec<i32> = unit.stretch().iter().map(|sample| sample.charts[*chart]).collect();
+        let own: Vec<i32> = unit.stretch().iter().map(|sample| sample[*chart]).collect();
         let highest = highest_run(&own).map(|run| run.sum);
         assert_eq!(highest, Some(*value), "{}, chart {chart} after {lines} lines", case.name);
     }
@@ -169,11 +169,10 @@ const README_STANDARD: &str = "
 ## standard: standardizing alone
 
 In `crates/case_standard`. A row is 12 digits: product 1 byte, analyte 1, mean 2, reading in
-hundredths 2. Answered are the value s, d, the contributions P, N, V, D and the mark, 1 where the cap
-was applied and 0 where not, or the refusal. No row has an analyte above 3, for which document 01
-has no word.
+hundredths 2. Answered are the value s, d and the contributions P, N, V, D, or the refusal. No row
+has an analyte above 3, for which document 01 has no word.
 
-| row | digits | s d P N V D mark | what it shows |
+| row | digits | s d P N V D | what it shows |
 |---|---|---|---|
 ";
 

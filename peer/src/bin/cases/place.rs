@@ -9,9 +9,7 @@ fn crate_of(list: &str) -> Option<String> {
         "residue-lines" => Some("case_residue_line".to_string()),
         "fat-over-limit"
         | "large-discrepancy"
-        | "marked-misses"
         | "readmitted"
-        | "residue-marked-misses"
         | "second-probation-by-misses"
         | "set-mean-edge"
         | "set-spread-edge" => None,

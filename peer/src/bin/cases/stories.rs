@@ -2,7 +2,6 @@
 
 mod charts;
 mod inputs;
-mod marked;
 mod misses;
 mod refusals;
 mod residue;
@@ -38,8 +37,6 @@ pub fn cases() -> Vec<Case> {
         inputs::lengths(),
         inputs::bytes(),
         status::status(),
-        marked::marked(),
-        marked::marked_misses(),
         residue::low_results(),
         residue::residue_charts(),
         residue::residue_misses(),
@@ -48,8 +45,6 @@ pub fn cases() -> Vec<Case> {
         windows::residue_eight(),
         windows::residue_both(),
         windows::residue_first(),
-        marked::residue_marked(),
-        marked::residue_marked_misses(),
     ]
 }
 

@@ -1,6 +1,5 @@
 -- `difference::contribution::contribute` meets its contract: each contribution is small. Assumes nothing.
 use mathlib.Core.Path.{◌≡◌, ap, ap₂, ◌∙◌}
-use mathlib.Core.Bool.{Bool}
 use Prim.Native.Nat.{ℕ, ◌≤◌, ◌<◌, ◌^◌}
 use native.Mathlib.Omega.{arith}
 use lib.IntN.{ℤ, pos, neg_ℤ, nat_abs, ◌-ℤ◌}
@@ -100,8 +99,7 @@ sub-t12 : tie.Need-overflow-sub-t12
 sub-t12 c = rw (d-is c) (word (deviant_of (size c)) (d_small c))
 
 -- the contributions from their parts
-made : {p n v d p' n' v' d' : ℤ} {m : Bool} → p ≡ p' → n ≡ n' → v ≡ v' → d ≡ d'
-    → ◌≡◌ {A = Contributions} (record { p = p; n = n; v = v; d = d; marked = m }) (record { p = p'; n = n'; v = v'; d = d'; marked = m })
+made : {p n v d p' n' v' d' : ℤ} → p ≡ p' → n ≡ n' → v ≡ v' → d ≡ d' → ◌≡◌ {A = Contributions} (record { p = p; n = n; v = v; d = d }) (record { p = p'; n = n'; v = v'; d = d' })
 made ep en ev ed = rw (ep, en, ev, ed)
 
 returns : tie.Need-returns

@@ -13,9 +13,13 @@ use Rattle.laws.proofs.Cond.{cases}
 use Rattle.laws.proofs.Order.{size, canon}
 use Rattle.laws.proofs.Word.{word, abs, abs_minus}
 use Rattle.difference.specs.Residue.{residue_value}
+use Rattle.difference.specs.declared.difference.Difference.{Difference}
 use Rattle.difference.proofs.DistanceLaws.{by_sign}
 use Rattle.difference.proofs.residue.residue_difference.Statement.{statement}
 use Rattle.difference.proofs.residue.residue_difference.Tie as tie
+
+abbrev of : ℤ → Difference
+of z = record { tenths = z }
 
 -- a log's size
 small : (z : ℤ) → SFits w16 z → nat_abs z ≤ 2 ^ 15
@@ -68,16 +72,19 @@ residue-value-requires c κs = search rules
 scaled-requires : tie.Need-scaled-requires
 scaled-requires c κs = (omega arith, subst (λ (n : ℕ). 0 < n) (sym c.residue-value.ensures) (positive c.before.before.args.compound))
 
-capped-requires : tie.Need-capped-requires
-capped-requires c κs = search rules
+signed-requires : tie.Need-signed-requires
+signed-requires c κs = search rules
 
 returns : tie.Need-returns
 returns c =
     let s = c.before.before.before.before in
-    c.capped.ensures
-    ∙ rw (c.before.scaled.ensures, c.before.before.before.size.ensures, c.before.before.residue-value.ensures, back s)
-    (sym (by_sign 10 (h s) (residue_value s.args.compound)))
+    let same : to_z w32 (of_z w32 c.signed.result) ≡ c.signed.result = to_z-of_z (search rules) in
+    ap of
+    (same
+    ∙ c.signed.ensures
+    ∙ rw (c.before.scaled.ensures, c.before.before.before.size.ensures, c.before.before.residue-value.ensures, back s))
+    ∙ sym (by_sign 10 (h s) (residue_value s.args.compound))
 
 pub residue-difference-spec : {M : Type 1} → statement M
 residue-difference-spec =
-    tie.close (tie.spec cast-h cast-h-2 sub-h size-requires cast-scaled mul-scaled residue-value-requires scaled-requires capped-requires returns)
+    tie.close (tie.spec cast-h cast-h-2 sub-h size-requires cast-scaled mul-scaled residue-value-requires scaled-requires signed-requires returns)

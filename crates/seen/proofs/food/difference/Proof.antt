@@ -1,5 +1,8 @@
 -- `difference` meets its contract, by what `standardize` gave. Assumes nothing.
-use mathlib.Core.Path.{sym, ap, ◌∙◌}
+use mathlib.Core.Path.{◌≡◌, sym, ap, ◌∙◌}
+use mir.Syntax.{w32}
+use mir.Val.{to_z, of_z}
+use mir.Facts.{to_z-of_z}
 use Rattle.seen.specs.Food.{difference_in}
 use borrow.Author.Rules.{rules}
 use Rattle.seen.proofs.food.difference.Statement.{statement}
@@ -26,7 +29,9 @@ returns-2 : tie.Need-returns-2
 returns-2 c =
     let k = c.before.before in
     let s = k.before.before in
-    rw (← s.before.hundredths-in.ensures) (ap difference_in (sym k.figures.given.1 ∙ s.standardize.ensures))
+    let f = k.figures.given.0.0 in
+    let back : to_z w32 (of_z w32 f.difference) ≡ f.difference = to_z-of_z (search rules) in
+    rw (back, ← s.before.hundredths-in.ensures) (ap difference_in (sym k.figures.given.1 ∙ s.standardize.ensures))
 
 pub difference-spec : {M : Type 1} → statement M
 difference-spec =

@@ -6,82 +6,70 @@ use Rattle.text.proofs.answer.bytes_of.Tie as tie
 enum-known-event : tie.Need-enum-known-event
 enum-known-event c = search rules
 
-enum-known-event-2 : tie.Need-enum-known-event-2
-enum-known-event-2 c = search rules
-
-flag-byte-requires : tie.Need-flag-byte-requires
-flag-byte-requires c κs = search rules
-
 enum_told : tie.Need-enum-told
 enum_told c = search rules
-
-enum-known-event-3 : tie.Need-enum-known-event-3
-enum-known-event-3 c = search rules
 
 enum-told-2 : tie.Need-enum-told-2
 enum-told-2 c = search rules
 
+enum-known-event-2 : tie.Need-enum-known-event-2
+enum-known-event-2 c = search rules
+
 enum-told-3 : tie.Need-enum-told-3
 enum-told-3 c = search rules
-
-enum-known-event-4 : tie.Need-enum-known-event-4
-enum-known-event-4 c = search rules
-
-flag-byte-requires-2 : tie.Need-flag-byte-requires-2
-flag-byte-requires-2 c κs = search rules
 
 enum-told-4 : tie.Need-enum-told-4
 enum-told-4 c = search rules
 
-enum-known-event-5 : tie.Need-enum-known-event-5
-enum-known-event-5 c = search rules
+enum-told-5 : tie.Need-enum-told-5
+enum-told-5 c = search rules
 
-flag-byte-requires-3 : tie.Need-flag-byte-requires-3
-flag-byte-requires-3 c κs = search rules
+enum-told-6 : tie.Need-enum-told-6
+enum-told-6 c = search rules
+
+enum-told-7 : tie.Need-enum-told-7
+enum-told-7 c = search rules
 
 returns : tie.Need-returns
 returns c = rw c.before.event.given.1
 
 returns-2 : tie.Need-returns-2
-returns-2 c = rw (c.flag-byte.ensures, c.before.before.event2.given.1)
+returns-2 c = rw c.enum_told.given.1
 
 returns-3 : tie.Need-returns-3
-returns-3 c = rw c.enum_told.given.1
+returns-3 c = rw c.enum-told2.given.1
 
 returns-4 : tie.Need-returns-4
-returns-4 c = rw c.before.event3.given.1
+returns-4 c = rw c.before.event2.given.1
 
 returns-5 : tie.Need-returns-5
-returns-5 c = rw c.enum-told2.given.1
+returns-5 c = rw c.enum-told3.given.1
 
 returns-6 : tie.Need-returns-6
-returns-6 c = rw c.enum-told3.given.1
+returns-6 c = rw c.enum-told4.given.1
 
 returns-7 : tie.Need-returns-7
-returns-7 c = rw (c.flag-byte2.ensures, c.before.before.event4.given.1)
+returns-7 c = rw c.enum-told5.given.1
 
 returns-8 : tie.Need-returns-8
-returns-8 c = rw c.enum-told4.given.1
+returns-8 c = rw c.enum-told6.given.1
 
 returns-9 : tie.Need-returns-9
-returns-9 c = rw (c.flag-byte3.ensures, c.before.before.event5.given.1)
+returns-9 c = rw c.enum-told7.given.1
 
 pub bytes-of-spec : {M : Type 1} → statement M
 bytes-of-spec =
     tie.close
     (tie.spec
     enum-known-event
-    enum-known-event-2
-    flag-byte-requires
     enum_told
-    enum-known-event-3
     enum-told-2
+    enum-known-event-2
     enum-told-3
-    enum-known-event-4
-    flag-byte-requires-2
     enum-told-4
-    enum-known-event-5
-    flag-byte-requires-3
+    enum-told-5
+    enum-told-6
+    enum-told-7
     returns
     returns-2
     returns-3

@@ -21,11 +21,11 @@ array-read-t13 c = search rules
 array-read-t16 : tie.Need-array-read-t16
 array-read-t16 c = search rules
 
-flag-byte-requires : tie.Need-flag-byte-requires
-flag-byte-requires c κs = search rules
+misses-byte-requires : tie.Need-misses-byte-requires
+misses-byte-requires c κs = search rules
 
 returns : tie.Need-returns
-returns c = rw (c.before.before.bytes2.ensures, c.before.bytes22.ensures, c.flag-byte.ensures)
+returns c = rw (c.before.before.bytes2.ensures, c.before.bytes22.ensures, c.misses-byte.ensures)
 
 pub stage-bytes-spec : {M : Type 1} → statement M
 stage-bytes-spec =
@@ -37,5 +37,5 @@ stage-bytes-spec =
     array-read-t10
     array-read-t13
     array-read-t16
-    flag-byte-requires
+    misses-byte-requires
     returns)

@@ -1,6 +1,5 @@
 -- `unit::set::add` meets its contract: fewer differences than a set has leave room in each sum. Assumes nothing.
 use mathlib.Core.Path.{◌≡◌, ap, ◌∙◌}
-use mathlib.Core.Bool.{◌||◌}
 use Prim.Native.Nat.{ℕ, ◌+◌, ◌*◌, ◌≤◌, ◌<◌, ◌^◌}
 use native.Mathlib.Nat.{mul-le-mul}
 use native.Mathlib.Omega.{arith}
@@ -9,7 +8,6 @@ use mir.Syntax.{w32}
 use mir.Val.{to_z, of_z}
 use Rattle.difference.specs.Contribution.{measure_of}
 use Rattle.difference.specs.Difference.{CAP}
-use Rattle.difference.specs.declared.difference.Difference.{Difference}
 use Rattle.difference.proofs.Bounds.{measure_small}
 use Rattle.laws.proofs.Word.{word, back, abs_plus}
 use Rattle.study.specs.Study.{added_of}
@@ -19,8 +17,8 @@ use Rattle.unit.proofs.set.add.Statement.{statement}
 use Rattle.unit.proofs.set.add.Tie as tie
 
 -- the sums from their parts
-summed : (sums : Sums) (d : Difference) {z : ℤ} {size m : ℕ} → z ≡ sums.s +ℤ d.tenths → size ≡ nat_abs d.tenths → m ≡ measure_of size
-    → record { s = z; q = sums.q + size * size; g = sums.g + m; marked = sums.marked || d.marked } ≡ added_of sums d
+summed : (sums : Sums) (d : ℤ) {z : ℤ} {size m : ℕ} → z ≡ sums.s +ℤ d → size ≡ nat_abs d → m ≡ measure_of size
+    → record { s = z; q = sums.q + size * size; g = sums.g + m } ≡ added_of sums d
 summed sums d ez es em = rw (ez, em, es)
 
 module _ (s : tie.Start) where
@@ -66,10 +64,9 @@ add-t8 c = let z = c.before.before.before.before.before.before.before in record 
 
 returns : tie.Need-returns
 returns c =
-    let m = c.before.before.before in
-    let z = m.before.before.before.before.before.before in
+    let z = c.before.before.before.before.before.before.before in
     let s = z.before.before in
-    summed s.args.sums s.args.d (sum_back s) (size_is z) m.measure.ensures
+    summed s.args.sums s.args.d.tenths (sum_back s) (size_is z) c.before.measure.ensures
 
 pub add_spec : {M : Type 1} → statement M
 add_spec = tie.close (tie.spec size-requires add-t4 mul-t5 add-t6 measure-requires add-t8 returns)

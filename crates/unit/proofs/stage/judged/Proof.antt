@@ -41,7 +41,7 @@ returns c =
     let e = s.before in
     let a = e.before.before.args in
     c.taken.ensures ∙ left _ a.u _ refl e.empty-set.ensures s.no-samples.ensures n.no-misses.ensures k.no-counts.ensures
-    ∙ ap (λ (b : Bool). judged_by b a.marked a.u a.month) (sym e.before.if1.true)
+    ∙ ap (λ (b : Bool). judged_by b a.u a.month) (sym e.before.if1.true)
 
 after-failure-requires : tie.Need-after-failure-requires
 after-failure-requires c κs = search rules
@@ -58,7 +58,7 @@ returns-2 c =
     let f = e.before.before in
     let a = f.before.before.args in
     c.taken2.ensures ∙ left _ a.u _ f.after-failure.ensures e.empty-set2.ensures refl refl refl
-    ∙ ap (λ (b : Bool). judged_by b a.marked a.u a.month) (sym f.before.if1.false)
+    ∙ ap (λ (b : Bool). judged_by b a.u a.month) (sym f.before.if1.false)
 
 pub judged-spec : {M : Type 1} → statement M
 judged-spec = tie.close (tie.spec empty-set-requires no-samples-requires no-misses-requires no-counts-requires taken-requires returns after-failure-requires empty-set-requires-2 taken-requires-2 returns-2)

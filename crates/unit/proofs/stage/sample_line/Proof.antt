@@ -21,16 +21,16 @@ returns : tie.Need-returns
 returns c =
     let m = c.before.before.before.before in
     let a = m.before.args in
-    c.taken.ensures ∙ ap (λ (b : Bool). sample_by b (any_over a.c a.s.charts) a.marked a.u a.month a.s a.latest) (sym c.before.if1.true ∙ m.too_many.ensures)
+    c.taken.ensures ∙ ap (λ (b : Bool). sample_by b (any_over a.c a.s.charts) a.u a.month a.s a.latest) (sym c.before.if1.true ∙ m.too_many.ensures)
 
 -- where no window breaks it goes by the charts
 unbroken : (i : tie.Else1) (over : Bool) → i.before.any-over.result ≡ over
     → let a = i.before.before.before.before.args in
-    sample_by false over a.marked a.u a.month a.s a.latest ≡ sample_by (is_broken a.latest) (any_over a.c a.s.charts) a.marked a.u a.month a.s a.latest
+    sample_by false over a.u a.month a.s a.latest ≡ sample_by (is_broken a.latest) (any_over a.c a.s.charts) a.u a.month a.s a.latest
 unbroken i over e =
     let m = i.before.before.before in
     let a = m.before.args in
-    ap₂ (λ (b d : Bool). sample_by b d a.marked a.u a.month a.s a.latest) (sym i.if1.false ∙ m.too_many.ensures) (sym e ∙ i.before.any-over.ensures)
+    ap₂ (λ (b d : Bool). sample_by b d a.u a.month a.s a.latest) (sym i.if1.false ∙ m.too_many.ensures) (sym e ∙ i.before.any-over.ensures)
 
 taken-requires-2 : tie.Need-taken-requires-2
 taken-requires-2 c κs = search rules

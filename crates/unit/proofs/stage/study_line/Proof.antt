@@ -1,5 +1,5 @@
 -- `study_line` meets its contract, by whether the line is the set's last. Assumes nothing.
-use mathlib.Core.Path.{sym, ap, ap₂, ◌∙◌}
+use mathlib.Core.Path.{sym, ap, ◌∙◌}
 use mathlib.Core.Bool.{Bool}
 use borrow.Author.Tests.{eq-eqb, ne_eqb}
 use Rattle.unit.specs.Take.{judged_by, study_by}
@@ -10,19 +10,15 @@ use Rattle.unit.proofs.stage.study_line.Tie as tie
 passes-set-requires : tie.Need-passes-set-requires
 passes-set-requires c κs = search rules
 
-marked-set-requires : tie.Need-marked-set-requires
-marked-set-requires c κs = search rules
-
 judged-requires : tie.Need-judged-requires
 judged-requires c κs = search rules
 
 returns : tie.Need-returns
 returns c =
-    let p = c.before.before in
-    let a = p.before.before.before.args in
+    let a = c.before.before.before.before.args in
     c.judged.ensures
-    ∙ ap₂ (λ (b n : Bool). judged_by b n a.u a.month) p.passes-set.ensures c.before.marked-set.ensures
-    ∙ ap (λ (b : Bool). study_by b a.c a.u a.month a.set) (sym (eq-eqb _ _ p.before.if1.true))
+    ∙ ap (λ (b : Bool). judged_by b a.u a.month) c.before.passes-set.ensures
+    ∙ ap (λ (b : Bool). study_by b a.c a.u a.month a.set) (sym (eq-eqb _ _ c.before.before.if1.true))
 
 taken-requires : tie.Need-taken-requires
 taken-requires c κs = search rules
@@ -33,4 +29,4 @@ returns-2 c =
     c.taken.ensures ∙ ap (λ (b : Bool). study_by b a.c a.u a.month a.set) (sym (ne_eqb _ _ c.before.before.if1.false))
 
 pub study-line-spec : {M : Type 1} → statement M
-study-line-spec = tie.close (tie.spec passes-set-requires marked-set-requires judged-requires returns taken-requires returns-2)
+study-line-spec = tie.close (tie.spec passes-set-requires judged-requires returns taken-requires returns-2)

@@ -1,7 +1,6 @@
 -- `take_seen` meets its contract: each return is a case of `taken_seen`. Assumes nothing.
 use Prim.Native.Nat.{ℕ}
-use mathlib.Core.Path.{◌≡◌, sym, ap, ◌∙◌}
-use mathlib.Core.Bool.{Bool}
+use mathlib.Core.Path.{◌≡◌, sym, ap, ap₂, ◌∙◌}
 use mathlib.Core.List.{List}
 use lib.Dec.{eqb}
 use Rattle.grounds.specs.Earlier.{is_broken}
@@ -9,19 +8,12 @@ use Rattle.rows.specs.Rows.{first_row}
 use Rattle.study.specs.Study.{SET}
 use Rattle.unit.specs.Stretch.{any_over}
 use Rattle.unit.specs.Take.{unit_rows, sample_by, study_by}
-use Rattle.difference.specs.declared.constants.Constants.{Constants}
-use Rattle.unit.specs.declared.Unit as U
 use Rattle.unit.specs.declared.set.Set.{Set}
 use Rattle.unit.specs.declared.stretch.Stretch.{Stretch}
 use Rattle.unit.proofs.Taking.{refused_row, accepted_study, accepted_missed, accepted_sample, is_open, room}
 use borrow.Author.Rules.{rules}
 use Rattle.unit.proofs.stage.take_seen.Statement.{statement}
 use Rattle.unit.proofs.stage.take_seen.Tie as tie
-
--- a sample, part by part
-sampled-as : (c : Constants) (u : U.Unit) (month : ℕ) {s t : Stretch} {a b : Bool} {l n : List ℕ} → s ≡ t → a ≡ b → l ≡ n
-    → sample_by (is_broken l) (any_over c s.charts) a u month s l ≡ sample_by (is_broken n) (any_over c t.charts) b u month t n
-sampled-as c u month p q r = rw (p, q, r)
 
 -- no row fits
 none : (c : tie.Else1) → first_row (unit_rows c.before.before.args.u c.before.before.args.x) ≡ 0
@@ -39,7 +31,7 @@ returns c =
     c.refused.ensures ∙ refused_row a.c a.u a.x c.before.before.first-row.result c.before.before.first-row.ensures c.before.if1.true
 
 entered-requires : tie.Need-entered-requires
-entered-requires c κs = let p = c.before.before.before.before.requires in (p.0, p.1.lines, p.1.sums, p.2.within)
+entered-requires c κs = let p = c.before.before.before.before.requires in (p.0, p.1.lines, p.1.sums, p.2.capped)
 
 study-line-requires : tie.Need-study-line-requires
 study-line-requires c κs = search rules
@@ -80,7 +72,7 @@ returns-4 c =
     let i = m.before in
     let a = i.before.before.before.before.args in
     c.sample-line.ensures
-    ∙ sampled-as a.c a.u a.x.month s.sampled.ensures.0 s.sampled.ensures.1 c.before.latest-of.ensures
+    ∙ ap₂ (λ (s : Stretch) (n : List ℕ). sample_by (is_broken n) (any_over a.c s.charts) a.u a.x.month s n) s.sampled.ensures c.before.latest-of.ensures
     ∙ accepted_sample a.c a.u a.x (none i.before.before) i.if2.false m.if3.false
 
 pub take-seen-spec : {M : Type 1} → statement M

@@ -1,26 +1,21 @@
--- `move_charts` meets its contract. The loop's invariant: the charts of the analytes so far are moved, the others are as they were, and the mark is that of
--- the contributions so far. Assumes nothing.
+-- `move_charts` meets its contract. The loop's invariant: the charts of the analytes so far are moved, the others are as they were. Assumes nothing.
 use mathlib.Core.Path.{◌≡◌, refl, ap, ◌∙◌}
 use native.Mathlib.Omega.{arith}
 use Prim.Native.Nat.{ℕ, ◌*◌, ◌-◌, ◌≤◌}
 use lib.ListN.{length}
-use Rattle.laws.specs.Each.{each_below, any_below}
-use Rattle.laws.proofs.EachLaws.{any_more}
-use Rattle.difference.specs.Contribution.{EACH, CHARTS, contributions_of}
-use Rattle.unit.specs.Charts.{charts_in, difference_at, moved_by}
-use Rattle.difference.specs.declared.contribution.Contributions.{Contributions}
+use Rattle.laws.specs.Each.{each_below}
+use Rattle.difference.specs.Contribution.{EACH, CHARTS}
+use Rattle.unit.specs.Charts.{charts_in, moved_by}
 use Rattle.unit.proofs.Moves.{Turn, Upto, at, asks, next}
 use borrow.Author.Rules.{rules}
 use Rattle.unit.proofs.stretch.move_charts.Statement.{statement}
 use Rattle.unit.proofs.stretch.move_charts.Tie as tie
 
 abbrev invariant-loop : tie.invariant-loop
-invariant-loop c before d charts₀ marked₀ a₀ charts marked a =
-    (a ≤ c.analytes) × (length charts₀ ≡ CHARTS) × (charts ≡ each_below (EACH * a) (moved_by c before d) charts₀)
-    × (marked ≡ any_below a (λ (i : ℕ). (contributions_of c (difference_at d i)).marked))
+invariant-loop c before d charts₀ a₀ charts a = (a ≤ c.analytes) × (length charts₀ ≡ CHARTS) × (charts ≡ each_below (EACH * a) (moved_by c before d) charts₀)
 
 abbrev decreases-loop : tie.decreases-loop
-decreases-loop c before d charts₀ marked₀ a₀ charts marked a = c.analytes - a
+decreases-loop c before d charts₀ a₀ charts a = c.analytes - a
 
 -- the charts where a turn has the analyte's contributions, and after each step
 abbrev none : tie.After-contribute invariant-loop decreases-loop → Upto
@@ -54,26 +49,12 @@ three c = let u = two c.before.before.before in next u (at u).v c.step3.ensures
 abbrev four : tie.After-step4 invariant-loop decreases-loop → Upto
 four c = let u = three c.before.before.before in next u (at u).d c.step4.ensures
 
--- the next turn: the contributions' mark is that of the analyte's difference
-again : tie.Need-loop-preserved invariant-loop decreases-loop
-again c =
-    let u = four c.before in
-    let l = c.before.before.before.before.before.before.before.before.before.before.before.before.before.before.before.before.before in (
-      omega (arith, u.turn.under),
-      u.turn.long,
-      u.old,
-      any_more l.loop.a _ l.loop.invariant.3 (ap (λ (x : Contributions). x.marked) u.turn.gives),
-    )
-
 returns : tie.Need-returns invariant-loop decreases-loop
 returns c =
     let at = c.before.before.loop in
     let s = c.before.before.before in
     let every : EACH * at.a ≡ charts_in s.args.c = omega (arith, at.invariant.0) in
-    let all : at.a ≡ s.args.c.analytes = omega (arith, at.invariant.0) in (
-      at.invariant.2 ∙ ap (λ (n : ℕ). each_below n (moved_by s.args.c s.args.before s.args.t4) s.args.start) every,
-      at.invariant.3 ∙ ap (λ (n : ℕ). any_below n (λ (i : ℕ). (contributions_of s.args.c (difference_at s.args.t4 i)).marked)) all,
-    )
+    at.invariant.2 ∙ ap (λ (n : ℕ). each_below n (moved_by s.args.c s.args.before s.args.t4) s.args.start) every
 
 -- in the code's order: up to the contributions, then for each step what its chart's number asks, what the step requires and what the store asks, then the
 -- next turn
@@ -81,7 +62,7 @@ pub move-charts-spec : {M : Type 1} → statement M
 move-charts-spec =
     tie.close
     (tie.spec invariant-loop decreases-loop
-    (λ c. (omega arith, search rules, refl, refl))
+    (λ c. (omega arith, search rules, refl))
     (λ c. search rules)
     (λ c. search rules)
     (λ c. search rules)
@@ -114,7 +95,7 @@ move-charts-spec =
     (λ c. (at (four c)).d.fits)
     (λ c. (at (four c)).d.bytes)
     (λ c. (at (four c)).d.within)
-    (λ c. let u = four c.before in record { fits = omega (arith, u.turn.under, u.turn.pre.0) })
-    (λ c. let u = four c.before in omega (arith, u.turn.under))
-    again
+    (λ c. record { fits = omega (arith, (four c).turn.under, (four c).turn.pre.0) })
+    (λ c. omega (arith, (four c).turn.under))
+    (λ c. (omega (arith, (four c).turn.under), (four c).turn.long, (four c).old))
     returns)

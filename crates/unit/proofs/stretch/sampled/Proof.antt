@@ -29,15 +29,14 @@ move-charts-requires c κs =
     let s = n.before in
     (s.requires.0, subst (λ (k : ℕ). k < FULL) (sym n.samples-before.ensures) s.requires.1, roomy s.args.c s.args.s s.requires.2)
 
-add-t9 : tie.Need-overflow-add-t9
-add-t9 c = search rules
+add-t8 : tie.Need-overflow-add-t8
+add-t8 c = search rules
 
 returns : tie.Need-returns
 returns c =
-    let m = c.before in
-    let n = m.before.before in
+    let n = c.before.before in
     let a = n.before.args in
-    (assembled a.c a.s a.year a.d n.samples-before.ensures m.move-charts.ensures.0, m.move-charts.ensures.1)
+    assembled a.c a.s a.year a.d n.samples-before.ensures c.move-charts.ensures
 
 pub sampled-spec : {M : Type 1} → statement M
-sampled-spec = tie.close (tie.spec samples-before-requires move-charts-requires add-t9 returns)
+sampled-spec = tie.close (tie.spec samples-before-requires move-charts-requires add-t8 returns)

@@ -85,16 +85,15 @@ pub fn two_charts() -> Case {
 pub fn large_discrepancy() -> Case {
     let case = Case::new(
         "large-discrepancy",
-        "Chart D of salt (0f) alone is over after two samples: d = 999, capped, adds 9500, and no \
-         salt found where the mean is 2.00 gives d = -132 and adds 7856: 0101, then 0600. The \
-         measure has no sign.",
+        "Chart D of salt (0f) alone is over after two samples: d = 999 adds 9500, and no salt \
+         found where the mean is 2.00 gives d = -132 and adds 7856. The measure has no sign.",
     );
     let mut nothing_found = at(2013, 2).sample();
     nothing_found.readings[SALT] = (1, 0);
     let mut far_above = at(2013, 1).sample();
     far_above.readings[SALT] = (0, 0x42c8_0000);
     case.admission(at(2012, 3))
-        .line(far_above, "0101")
+        .line(far_above, "0100")
         .line(nothing_found, "0600")
         .expect("030002800000")
         .expect("0f00010002000043cc")

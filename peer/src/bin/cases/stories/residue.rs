@@ -116,7 +116,7 @@ fn at_the_limit(case: Case) -> Case {
 /// | 4 | 270 | 14 | 9, at 9 | 5, at 24 | -250, at 0 |
 /// | 5 | 790 | 40 | 20, at 29 | 16, at 40 | 3500, at 3500 |
 /// | 6 to 9 | 90 | 5 | 0, at 29 | -4, at 24 | -250, at 2500 |
-/// | 10 | 19998 | 999, capped | 20, at 49 | 16, at 40 | 9500, at 12000 |
+/// | 10 | 19998 | 999 | 20, at 49 | 16, at 40 | 9500, at 12000 |
 ///
 /// Of P's runs 1 to 10, 3 to 10 and 4 to 10 sum to 49; the shortest is shown.
 fn over_the_limit(case: Case) -> Case {
@@ -127,7 +127,7 @@ fn over_the_limit(case: Case) -> Case {
         .line(off(2014, 4, 270), "0100")
         .line(off(2014, 5, 790), "0100")
         .lines(4, off(2014, 6, 90), "0100")
-        .line(farthest, "0601")
+        .line(farthest, "0600")
 }
 
 pub fn residue_charts() -> Case {
@@ -136,8 +136,8 @@ pub fn residue_charts() -> Case {
         "2012: P (00) comes to its limit, 48, and stays there through every refusal but 8 and 12, \
          each followed by a sample that adds 0. 2013: a new stretch, V at its limit, 43. 2014: \
          the first sample sets P to -20; in October P is over with 49, run 4 to 10, the shortest \
-         of three, and D with 12,000, run 5 to 10, by a capped difference: 0601. Then 8, but for \
-         lines that do not read. The last line is empty and ended, so the status comes twice.",
+         of three, and D with 12,000, run 5 to 10. Then 8, but for lines that do not read. The last \
+         line is empty and ended, so the status comes twice.",
     );
     let over = ["03000a000900", "000004000a00000031", "030005000a00002ee0"];
     // 2013: d = 25, -25, 20 and 9. V adds 16, 16, 11 and 0; P is at 20, 0, 15 and 19.
