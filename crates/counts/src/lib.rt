@@ -1,3 +1,5 @@
+#![tactic(auto)]
+
 // The misidentification counts of the latest samples. Document 02, request Three.
 ghost use Rattle.std.specs.Prelude.{◌≡◌, ◌≤◌, take};
 ghost use Rattle.grounds.specs.Earlier.{no_counts, latest_of, is_broken};

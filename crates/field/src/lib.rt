@@ -1,6 +1,8 @@
 // Rows 3 to 7 of the refusals, each true where the row fits, and the numbers that they go by: document
 // 01, "Refused". Those of a residue line stand in `residue`.
 
+#![tactic(auto)]
+
 pub mod residue;
 
 ghost use Rattle.std.specs.Prelude.{◌≡◌};
@@ -27,7 +29,7 @@ pub const LEAST_PROTEIN: u16 = 5;
 pub const LEAST_BEEF_FAT: u16 = 1250;
 
 // The comparison means of the four analytes, in hundredths of a percent.
-#[derive(Drop)]
+#[derive(Clone, Copy)]
 pub struct Means {
     pub moisture: u16,
     pub protein: u16,
@@ -43,13 +45,14 @@ pub const NOTHING_FOUND: u8 = 1;
 pub const LOST: u8 = 2;
 
 // A reading as a line has it: the tag, and the number that the four bytes after it make.
-#[derive(Drop)]
+#[derive(Clone, Copy)]
 pub struct Tagged {
     pub tag: u8,
     pub bits: u32,
 }
 
 // A kind that no food line has.
+#[tactic(auto, unfolding(crate::specs::Refused::kind_row))]
 pub fn kind_row(kind: u8) -> bool
     ensures { result ≡ kind_row kind }
 {
@@ -57,6 +60,7 @@ pub fn kind_row(kind: u8) -> bool
 }
 
 // A year or a month that no line has.
+#[tactic(auto, unfolding(crate::specs::Refused::date_row))]
 pub fn date_row(year: u16, month: u8) -> bool
     ensures { result ≡ date_row year month }
 {
@@ -64,6 +68,7 @@ pub fn date_row(year: u16, month: u8) -> bool
 }
 
 // A product that no line has: bits 0 and 1 are the class, and bit 7 is for dry salami or pepperoni.
+#[tactic(auto, unfolding(crate::specs::Refused::product_row))]
 pub fn product_row(product: u8) -> bool
     ensures { result ≡ product_row product }
 {
@@ -71,6 +76,7 @@ pub fn product_row(product: u8) -> bool
 }
 
 // Means that no line of the product has.
+#[tactic(auto, unfolding(crate::specs::Refused::mean_row))]
 pub fn mean_row(product: u8, m: Means) -> bool
     ensures { result ≡ mean_row product m }
 {
@@ -81,6 +87,7 @@ pub fn mean_row(product: u8, m: Means) -> bool
 }
 
 // A reading that no line has.
+#[tactic(auto, unfolding(crate::specs::Refused::reading_row))]
 pub fn reading_row(t: Tagged) -> bool
     ensures { result ≡ reading_row t }
 {

@@ -24,6 +24,7 @@ pub const RESULT: u8 = 0;
 const MOST_COUNT: u8 = 20;
 
 // A kind that no residue line has.
+#[tactic(auto, unfolding(crate::specs::Residue::residue_kind_row))]
 pub fn residue_kind_row(kind: u8) -> bool
     ensures { result ≡ residue_kind_row kind }
 {
@@ -31,6 +32,7 @@ pub fn residue_kind_row(kind: u8) -> bool
 }
 
 // A number that stands for no compound.
+#[tactic(auto, unfolding(crate::specs::Residue::no_compound))]
 pub fn no_compound(compound: u8) -> bool
     ensures { result ≡ no_compound compound }
 {
@@ -38,12 +40,14 @@ pub fn no_compound(compound: u8) -> bool
 }
 
 // No compound, or another than the one given.
+#[tactic(auto, unfolding(crate::specs::Residue::compound_row))]
 pub fn compound_row(given: u8, compound: u8) -> bool
     ensures { result ≡ compound_row given compound }
 {
     no_compound(compound) | (compound != given)
 }
 
+#[tactic(auto, unfolding(crate::specs::Residue::outside))]
 fn is_outside(log: i16) -> bool
     ensures { result ≡ outside log }
 {
@@ -51,6 +55,7 @@ fn is_outside(log: i16) -> bool
 }
 
 // A log that no line has: the result's is looked at under its own tag alone.
+#[tactic(auto, unfolding(crate::specs::Residue::log_row))]
 pub fn log_row(comparison: i16, tag: u8, res: i16) -> bool
     ensures { result ≡ log_row comparison tag res }
 {
@@ -58,6 +63,7 @@ pub fn log_row(comparison: i16, tag: u8, res: i16) -> bool
 }
 
 // A tag, a lost result or a count that no line has.
+#[tactic(auto, unfolding(crate::specs::Residue::result_row))]
 pub fn result_row(tag: u8, res: i16, count: u8) -> bool
     ensures { result ≡ result_row tag res count }
 {

@@ -1,6 +1,8 @@
 // What every format of a line shares: its digits to bytes and bytes to its digits, with rows 1, 2 and
 // 13 of the refusals, which come before a format's own rows. Document 01, "The line" and "Refused".
 
+#![tactic(auto)]
+
 ghost use Rattle.std.specs.Prelude.{◌≡◌, ◌*◌, length};
 ghost use Rattle.rows.specs.Rows.{first_row};
 ghost use Rattle.digits.specs.Digits.{digits_of};
@@ -12,7 +14,7 @@ use digits::{read_digits, write_digits};
 use rows::refusal::{DIGIT, LENGTH, SHORT};
 
 // What writing a record gives: the line stands in the buffer, or the number of the refusal.
-#[derive(Drop)]
+#[derive(Clone, Copy)]
 pub enum Written {
     Done,
     Refused(u8),

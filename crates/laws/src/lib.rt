@@ -1,1 +1,3 @@
 // Lemmas that know nothing of laboratories. No function is here.
+
+#![tactic(auto)]

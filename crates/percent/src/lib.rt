@@ -1,5 +1,7 @@
 // A percent in binary32: its bit pattern, whether it is accepted, and its hundredths.
 
+#![tactic(auto)]
+
 mod pattern;
 mod rounding;
 

@@ -8,7 +8,7 @@ ghost use Rattle.percent.specs.Percent.{hundredths_of, rounded_of};
 use crate::pattern::{bits_of, is_accepted};
 
 // The hundredths of an accepted percent. Another float has none.
-#[derive(Drop)]
+#[derive(Clone, Copy)]
 pub enum Rounded {
     Accepted(u16),
     NotAccepted,

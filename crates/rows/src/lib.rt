@@ -1,5 +1,7 @@
 // The first row of a table that fits: document 01, "Refused".
 
+#![tactic(auto)]
+
 pub mod refusal;
 
 ghost use Rattle.std.specs.Prelude.{◌≡◌, cond};
