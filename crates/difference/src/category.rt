@@ -5,7 +5,7 @@ ghost use Rattle.difference.specs.Contribution.{constants_of};
 use crate::constants::{Constants, FOOD, RESIDUE};
 
 // What an accreditation was granted for: food chemistry, or residues of one compound, by its number.
-#[derive(Drop)]
+#[derive(Clone, Copy)]
 pub enum Category {
     Food,
     Residue(u8),

@@ -3,7 +3,7 @@ ghost use Rattle.std.specs.Prelude.{◌≡◌, ◌<◌};
 ghost use Rattle.difference.specs.Difference.{coefficient_of};
 
 // A coefficient in thousandths, by what it is multiplied by: 1, the protein power p, or the power q of fat and salt.
-#[derive(Drop)]
+#[derive(Clone, Copy)]
 pub enum Coefficient {
     Constant(u32),
     P(u32),
@@ -27,6 +27,7 @@ const LEAN: u32 = 260;
 const DRY: u32 = 220;
 
 // The coefficient and which power applies.
+#[tactic(auto, using(crate::proofs::Coefficients::arms), unfolding(crate::proofs::Coefficients::coefficients))]
 pub fn choose(product: u8, analyte: u8, mean: u16) -> Coefficient
     requires { analyte < 4 }
     ensures { result ≡ coefficient_of product analyte mean }

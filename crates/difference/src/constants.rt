@@ -9,7 +9,7 @@ pub const CHARTS: usize = EACH as usize * ANALYTES;
 
 // What an analyte category goes by: how many analytes it has, and for the charts P and N of systematic
 // difference the turning points, the shift and the limit, in tenths.
-#[derive(Drop)]
+#[derive(Clone, Copy)]
 pub struct Constants {
     pub analytes: u8,
     pub high: u8,

@@ -7,7 +7,7 @@ use crate::difference::Difference;
 
 // What is added to the four charts of an analyte: the regulation's increments, for N with its sign
 // turned.
-#[derive(Drop)]
+#[derive(Clone, Copy)]
 pub struct Contributions {
     pub p: i32,
     pub n: i32,
@@ -34,6 +34,7 @@ const LARGE: u64 = 25;
 const WHOLE: u64 = 10_000;
 
 // The large deviation measure of a size, in ten-thousandths.
+#[tactic(auto, unfolding(crate::specs::Contribution::measure_of))]
 pub fn measure(size: u32) -> u32
     ensures { result ≡ measure_of size }
 {
@@ -49,6 +50,7 @@ pub fn measure(size: u32) -> u32
 const STEP: i32 = 20;
 
 // The increment of P and N for a difference `d`, by the turning points above and below 0.
+#[tactic(auto, unfolding(crate::specs::Contribution::increment_of))]
 fn increment(d: i32, high: u8, low: u8, shift: i32) -> i32
     requires { nat_abs shift ≤ 255 }
     ensures { result ≡ increment_of high low shift d }
@@ -73,6 +75,7 @@ const HIGHEST_V: i32 = 16;
 const FAR: u32 = (USUAL + HIGHEST_V) as u32;
 
 // To V, by the difference's size.
+#[tactic(auto, unfolding(crate::specs::Contribution::variable_of))]
 fn variable(size: u32) -> i32
     ensures { result ≡ variable_of size }
 {

@@ -1,3 +1,5 @@
+#![tactic(auto)]
+
 // One reading, or one result of residues, on its own: its standardizing value, its difference, and what it contributes to the charts. The categories.
 pub mod category;
 mod coefficient;

@@ -88,6 +88,7 @@ const POWERS: [u32; 1000] = [
 ];
 
 // The power for a mean of `t` tenths of a percent.
+#[tactic(auto, using(crate::proofs::PowerList::power_at), unfolding(crate::proofs::PowerList::powers))]
 pub fn power(t: u16) -> u32
     requires { (1 ≤ t) × (t ≤ 1000) }
     ensures { result ≡ power_of t }

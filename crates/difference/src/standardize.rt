@@ -13,7 +13,7 @@ use rows::refusal::{MEAN, PRODUCT, READING};
 
 // What a reading comes to: the value in ten-millionths of a percent, the difference in tenths, and the
 // contributions, in tenths, for `d` in ten-thousandths.
-#[derive(Drop)]
+#[derive(Clone, Copy)]
 pub struct Figures {
     pub value: u32,
     pub difference: i32,
@@ -23,13 +23,14 @@ pub struct Figures {
     pub d: i32,
 }
 
-#[derive(Drop)]
+#[derive(Clone, Copy)]
 pub enum Standardized {
     Refused(u8),
     Given(Figures),
 }
 
 // The least mean of an analyte that a valid line of the class has.
+#[tactic(auto, unfolding(crate::specs::Standardize::least_mean))]
 fn least_mean(class: u8, analyte: u8) -> u16
     ensures { result ≡ least_mean class analyte }
 {
@@ -41,6 +42,7 @@ fn least_mean(class: u8, analyte: u8) -> u16
 }
 
 // Row 6 for one mean.
+#[tactic(auto, unfolding(crate::specs::Standardize::bad_mean))]
 fn bad_mean(class: u8, analyte: u8, mean: u16) -> bool
     ensures { result ≡ bad_mean class analyte mean }
 {
@@ -48,6 +50,7 @@ fn bad_mean(class: u8, analyte: u8, mean: u16) -> bool
 }
 
 // The figures of a mean that a valid line can have.
+#[tactic(auto, using(crate::proofs::ValueLaws::value_positive))]
 fn fill(product: u8, analyte: u8, mean: u16, reading: u16) -> Figures
     requires { (analyte < 4) × GoodMean (class_of product) analyte mean }
     ensures { result ≡ figures_of product analyte mean reading }
@@ -66,6 +69,7 @@ fn fill(product: u8, analyte: u8, mean: u16, reading: u16) -> Figures
 }
 
 // One reading on its own, by rows 5 to 7 of the table of refusals.
+#[tactic(auto, unfolding(crate::specs::Standardize::standardized_of))]
 pub fn standardize(product: u8, analyte: u8, mean: u16, reading: u16) -> Standardized
     ensures { result ≡ standardized_of product analyte mean reading }
 {

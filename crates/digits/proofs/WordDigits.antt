@@ -17,20 +17,9 @@ use Rattle.digits.specs.Digits.{is_digit, digit_value, are_digits, bytes_of}
 use Rattle.digits.specs.Numbers.{AreBytes}
 use Rattle.digits.specs.bounds.Found.{LETTER, letter_in, value_in}
 use Rattle.digits.proofs.DigitLaws.{digit_lt, value_lt}
+use Rattle.digits.proofs.WordLanes.{SIX_FOUR, ADDED, UPPER}
 
 -- ---- one lane
-
--- the bit in which a letter's upper half, 6, differs from 4
-abbrev pub SIX_FOUR : ℕ
-SIX_FOUR = 32
-
--- what takes a value up to 9 to an upper half of 3, and one from 10 on to 4
-abbrev pub ADDED : ℕ
-ADDED = 0x36
-
--- the upper half of a character
-abbrev pub UPPER : ℕ
-UPPER = 0xf0
 
 -- what the test finds wrong with a character: 0 exactly where it is a digit
 abbrev wrong_in : ℕ → ℕ

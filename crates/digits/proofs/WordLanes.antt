@@ -1,5 +1,5 @@
--- The characters of a word as a row of lanes of eight bits: the word is their number, and so is what is found in each of them; and the masks of the
--- code. Assumes nothing.
+-- The characters of a word as a row of lanes of eight bits: the word is their number, and so is what is found in each of them; and the masks and
+-- the other numbers of the code. Assumes nothing.
 use mathlib.Core.Path.{◌≡◌, sym, ap, ◌∙◌}
 use mathlib.Core.List.{List, [], ◌∷◌, map, map-id}
 use Prim.Native.Nat.{ℕ, ◌+◌, ◌*◌, ◌^◌, ◌<◌}
@@ -21,6 +21,18 @@ SECOND_PAIRS = 0x0000_ffff_0000_ffff
 
 abbrev pub SECOND_HALF : ℕ
 SECOND_HALF = 0xffff_ffff
+
+-- the bit in which a letter's upper half, 6, differs from 4
+abbrev pub SIX_FOUR : ℕ
+SIX_FOUR = 32
+
+-- what takes a value up to 9 to an upper half of 3, and one from 10 on to 4
+abbrev pub ADDED : ℕ
+ADDED = 0x36
+
+-- the upper half of a character
+abbrev pub UPPER : ℕ
+UPPER = 0xf0
 
 -- a number is gathered from the first byte on, or from the last
 moved : (x p v n : ℕ) → (x * BYTE + v) * p + n ≡ x * (p * BYTE) + (v * p + n)

@@ -17,8 +17,8 @@ use Rattle.digits.specs.Word.{CHARACTERS, characters_in}
 use Rattle.digits.specs.bounds.Found.{LETTER, letter_in, value_in, each_in, FourBy}
 use Rattle.digits.proofs.DigitLaws.{digit_lt}
 use Rattle.digits.proofs.NumberLaws.{bytes_back_at}
-use Rattle.digits.proofs.WordLanes.{SECOND_BYTES, SECOND_PAIRS, SECOND_HALF, number_row, each_row, word_row, characters_lt}
-use Rattle.digits.proofs.WordDigits.{SIX_FOUR, ADDED, UPPER, none_wrong, values_lt, letter_row, value_row, wrong_row, at_most, paired_bytes}
+use Rattle.digits.proofs.WordLanes.{SECOND_BYTES, SECOND_PAIRS, SECOND_HALF, SIX_FOUR, ADDED, UPPER, number_row, each_row, word_row, characters_lt}
+use Rattle.digits.proofs.WordDigits.{none_wrong, values_lt, letter_row, value_row, wrong_row, at_most, paired_bytes}
 
 -- ---- what the code computes
 

@@ -4,7 +4,7 @@ ghost use Rattle.std.specs.Prelude.{◌≡◌, true, ◌<◌};
 ghost use Rattle.digits.specs.Digits.{is_digit, digit_value, byte_of, byte_in, digit_of, high_digit, low_digit};
 
 // What two characters are: the byte that they write, or no two digits.
-#[derive(Drop)]
+#[derive(Clone, Copy)]
 pub enum Hex {
     Value(u8),
     Bad,

@@ -1,6 +1,8 @@
 // Lowercase hexadecimal digits, two to a byte, eight to a word, and numbers of a few bytes, the high
 // byte first.
 
+#![tactic(auto)]
+
 mod digit;
 mod load;
 mod number;

@@ -18,7 +18,7 @@ pub const SECOND_HALF: u64 = 0xffff_ffff;
 
 // What the step gives: the four bytes that the digits of a word write, the first highest, or the
 // number of the refusal.
-#[derive(Drop)]
+#[derive(Clone, Copy)]
 pub enum WordBytes {
     Four(u32),
     Refused(u8),

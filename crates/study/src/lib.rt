@@ -1,3 +1,5 @@
+#![tactic(auto)]
+
 // Study sets: the sums of an analyte, and whether they pass. Document 01, "Stages".
 ghost use Rattle.std.specs.Prelude.{◌≡◌};
 ghost use Rattle.study.specs.Study.{no_sums, passes_of};
@@ -5,7 +7,7 @@ ghost use Rattle.study.specs.Study.{no_sums, passes_of};
 use difference::contribution::size;
 
 // Of the differences d: the sum, the sum of the squares, and the sum of the measures.
-#[derive(Drop)]
+#[derive(Clone, Copy)]
 pub struct Sums {
     pub s: i32,
     pub q: u32,
@@ -34,6 +36,7 @@ const SPREAD: u64 = 166_635;
 const DEVIATION: u32 = 18_000;
 
 // Whether an analyte passes a full set. The square of the sum, which the spread subtracts, is added on the other side.
+#[tactic(auto, unfolding(crate::specs::Study::passes_of))]
 pub fn passes(sums: Sums) -> bool
     ensures { result ≡ passes_of sums }
 {
