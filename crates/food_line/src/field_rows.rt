@@ -10,6 +10,7 @@ use rows::first_of;
 use rows::refusal::{DATE, KIND, MEAN, PRODUCT, READING};
 
 // The first of rows 3 to 7 that fits the fields, or 0.
+#[tactic(auto, unfolding(rows::specs::Rows::first_row))]
 pub fn first_row(f: Fields) -> u8
     ensures { result ≡ first_row (field_rows f) }
 {

@@ -18,7 +18,7 @@ use percent::bits_of;
 // How many bytes a line's digits write.
 pub const BYTES: usize = 34;
 
-#[derive(Drop)]
+#[derive(Clone, Copy)]
 pub struct Fields {
     pub kind: u8,
     pub year: u16,
@@ -112,6 +112,7 @@ pub fn bytes_in(f: Fields) -> [u8; BYTES]
 }
 
 // A reading by its tag, of fields that no row refuses.
+#[tactic(auto, unfolding(crate::specs::Fields::reading_of))]
 fn reading_of(t: Tagged) -> Reading
     requires { reading_row t ≡ false }
     ensures { result ≡ reading_of t }
@@ -126,6 +127,7 @@ fn reading_of(t: Tagged) -> Reading
 }
 
 // A reading's tag and number. A percent is a value of binary32, by its type.
+#[tactic(auto, unfolding(crate::specs::Fields::tagged_of))]
 fn tagged_of(r: Reading) -> Tagged
     ensures tagged { result ≡ tagged_of r }
     ensures typed { TypedReading r }
@@ -144,6 +146,7 @@ fn tagged_of(r: Reading) -> Tagged
 }
 
 // The record that the fields hold, where no row refuses them.
+#[tactic(auto, using(crate::proofs::RowLaws::clean))]
 pub fn record_of(f: Fields) -> Record
     requires { first_row (field_rows f) ≡ 0 }
     ensures { result ≡ record_of f }

@@ -1,5 +1,7 @@
 // A line of a food check sample: 68 digits read to a record, and a record written back as a line.
 
+#![tactic(auto)]
+
 mod amount;
 mod field_rows;
 mod fields;
@@ -60,6 +62,7 @@ pub fn write(record: Record, buffer: &mut [u8]) -> Written
 }
 
 // A reading in hundredths of a percent, to the nearest, halves up. Nothing found counts as 0.
+#[tactic(auto, unfolding(crate::specs::Amount::amount_of))]
 pub fn hundredths(reading: Reading) -> Amount
     ensures { result ≡ amount_of reading }
 {

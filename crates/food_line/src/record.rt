@@ -3,7 +3,7 @@
 use field::Means;
 
 // A reading of the analyser: a percent, nothing found, or lost.
-#[derive(Drop)]
+#[derive(Clone, Copy)]
 pub enum Reading {
     Percent(f32),
     NothingFound,
@@ -11,7 +11,7 @@ pub enum Reading {
 }
 
 // The readings of the four analytes, as received.
-#[derive(Drop)]
+#[derive(Clone, Copy)]
 pub struct Readings {
     pub moisture: Reading,
     pub protein: Reading,
@@ -20,7 +20,7 @@ pub struct Readings {
 }
 
 // The analyser record of one check sample.
-#[derive(Drop)]
+#[derive(Clone, Copy)]
 pub struct Record {
     pub kind: u8,
     pub year: u16,
@@ -32,7 +32,7 @@ pub struct Record {
 }
 
 // What reading a line gives: the record, or the number of the refusal.
-#[derive(Drop)]
+#[derive(Clone, Copy)]
 pub enum Read {
     Whole(Record),
     Refused(u8),
@@ -40,7 +40,7 @@ pub enum Read {
 
 // A reading in hundredths of a percent. A lost reading has no amount, nor has a percent that no
 // line holds.
-#[derive(Drop)]
+#[derive(Clone, Copy)]
 pub enum Amount {
     Hundredths(u16),
     Unknown,

@@ -1,5 +1,5 @@
 // What a line did.
-#[derive(Drop)]
+#[derive(Clone, Copy)]
 pub enum Event {
     // Refused, with the number of the row.
     Refused(u8),

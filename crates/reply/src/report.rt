@@ -2,7 +2,7 @@
 use difference::constants::CHARTS;
 
 // A chart: whether it is over, and the run shown with its sum.
-#[derive(Drop)]
+#[derive(Clone, Copy)]
 pub struct ChartReport {
     pub over: bool,
     pub first: u16,
@@ -12,7 +12,7 @@ pub struct ChartReport {
 
 // The stage, the samples in the stretch, the mask of charts over, whether misses opened probation,
 // and each chart by its number.
-#[derive(Drop)]
+#[derive(Clone, Copy)]
 pub struct Report {
     pub stage: u8,
     pub samples: u16,

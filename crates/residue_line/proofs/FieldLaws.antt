@@ -2,19 +2,13 @@
 use Prim.Native.Nat.{ℕ}
 use mathlib.Core.Path.{◌≡◌, sym, ◌∙◌}
 use mathlib.Core.List.{List, [], ◌∷◌}
-use lib.IntN.{ℤ}
 use lib.ListN.{length, get_or}
-use Rattle.digits.specs.Numbers.{AreBytes, one_at, two_at, number_bytes}
-use Rattle.digits.specs.Signed.{signed_two_at, signed_bytes}
+use Rattle.digits.specs.Numbers.{AreBytes, number_bytes}
+use Rattle.digits.specs.Signed.{signed_bytes}
 use Rattle.laws.proofs.Lists.{tabulated}
 use Rattle.format.proofs.Parts.{two_split, signed_split}
 use Rattle.residue_line.specs.Fields.{line_bytes, bytes_in, fields_in}
 use Rattle.residue_line.specs.declared.fields.Fields.{Fields}
-
-pub joined_fields : (bs : List ℕ) {k y o e u t n : ℕ} {c r : ℤ} → k ≡ one_at bs 0 → y ≡ two_at bs 1 → o ≡ one_at bs 3 → e ≡ one_at bs 4 → u ≡ one_at bs 5
-    → c ≡ signed_two_at bs 6 → t ≡ one_at bs 8 → r ≡ signed_two_at bs 9 → n ≡ one_at bs 11
-    → record { kind = k; year = y; month = o; days = e; compound = u; comparison = c; tag = t; result = r; count = n } ≡ fields_in bs
-joined_fields bs ek ey eo ee eu ec et er en = rw (ek, ey, eo, ee, eu, ec, et, er, en)
 
 -- the 12 bytes, gathered from the bytes of the parts
 pub gathered : (f : Fields) {y c r : List ℕ} → y ≡ number_bytes 2 f.year → c ≡ signed_bytes 2 f.comparison → r ≡ signed_bytes 2 f.result

@@ -11,6 +11,7 @@ use rows::first_of;
 use rows::refusal::{COMPOUND, DATE, KIND, LOG, READING};
 
 // The first of these rows that fits the fields, for the compound given, or 0.
+#[tactic(auto, unfolding(rows::specs::Rows::first_row))]
 pub fn first_row(given: u8, f: Fields) -> u8
     ensures { result ≡ first_row (field_rows given f) }
 {

@@ -13,7 +13,7 @@ use field::residue::RESULT;
 // How many bytes a line's digits write.
 pub const BYTES: usize = 12;
 
-#[derive(Drop)]
+#[derive(Clone, Copy)]
 pub struct Fields {
     pub kind: u8,
     pub year: u16,
@@ -67,6 +67,7 @@ pub fn bytes_in(f: Fields) -> [u8; BYTES]
 }
 
 // A result by its tag.
+#[tactic(auto, unfolding(crate::specs::Fields::result_of))]
 fn result_of(tag: u8, log: i16) -> ResultLog
     ensures { result ≡ result_of tag log }
 {
@@ -77,6 +78,7 @@ fn result_of(tag: u8, log: i16) -> ResultLog
 }
 
 // A result's tag.
+#[tactic(auto, unfolding(crate::specs::Fields::tag_of))]
 fn tag_of(res: ResultLog) -> u8
     ensures { result ≡ tag_of res }
 {
@@ -87,6 +89,7 @@ fn tag_of(res: ResultLog) -> u8
 }
 
 // A result's log, 0 where it is lost.
+#[tactic(auto, unfolding(crate::specs::Fields::log_of))]
 fn log_of(res: ResultLog) -> i16
     ensures { result ≡ log_of res }
 {

@@ -1,6 +1,8 @@
 // A line of a residue check sample: 24 digits read to a record of the compound given, and a record of
 // it written back as a line. Document 02, request One.
 
+#![tactic(auto)]
+
 mod field_rows;
 mod fields;
 pub mod record;

@@ -1,14 +1,14 @@
 // What a residue line holds.
 
 // The result's log, in thousandths, or lost.
-#[derive(Drop)]
+#[derive(Clone, Copy)]
 pub enum ResultLog {
     Log(i16),
     Lost,
 }
 
 // The record of one check sample of a compound.
-#[derive(Drop)]
+#[derive(Clone, Copy)]
 pub struct Record {
     pub kind: u8,
     pub year: u16,
@@ -21,7 +21,7 @@ pub struct Record {
 }
 
 // What reading a line gives: the record, or the number of the refusal.
-#[derive(Drop)]
+#[derive(Clone, Copy)]
 pub enum Read {
     Whole(Record),
     Refused(u8),

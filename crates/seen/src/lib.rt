@@ -1,3 +1,5 @@
+#![tactic(auto)]
+
 // What a line is to the unit, whatever its format.
 mod date;
 mod food;
@@ -14,7 +16,7 @@ use residue::see_residue;
 
 // Study or maintenance, the year and the month number, missed or not, the misidentification count, and
 // the analytes' differences.
-#[derive(Drop)]
+#[derive(Clone, Copy)]
 pub struct Seen {
     pub study: bool,
     pub year: u16,
@@ -26,7 +28,7 @@ pub struct Seen {
 
 // What is seen of a line: 0 and what it is to the unit, or the number of the row by which it does not
 // read, and nothing.
-#[derive(Drop)]
+#[derive(Clone, Copy)]
 pub struct Sight {
     pub row: u8,
     pub seen: Seen,
