@@ -4,7 +4,6 @@ use mathlib.Core.Path.{◌≡◌, refl, sym, ap, ◌∙◌, subst}
 use mathlib.Core.Bool.{Bool, true, false, cond, ◌||◌, or-true, or-false, or_assoc}
 use mathlib.Core.Logic.{◌⊎◌, inl, inr, ⊎_elim}
 use mathlib.Core.List.{List, [], ◌∷◌, ◌++◌, append-nil, append_assoc}
-use native.Mathlib.Omega.{arith}
 use lib.Seq.{append_snoc}
 use Rattle.difference.specs.declared.constants.Constants.{Constants}
 use Rattle.grounds.specs.Earlier.{no_counts, is_broken}
@@ -24,7 +23,8 @@ use Rattle.unit.specs.Take.{no_misses, new_of, taken_in}
 use Rattle.unit.specs.declared.Unit as U
 use Rattle.reply.specs.declared.report.ChartReport.{ChartReport}
 use Rattle.unit.proofs.GoodLaws.{rules_sound}
-use Rattle.unit.proofs.Kept.{Kept, fresh, step_kept, next}
+use Rattle.unit.proofs.EveryLine.{step_kept, next}
+use Rattle.unit.proofs.Kept.{Kept, fresh}
 use Rattle.unit.proofs.Sound.{Sound}
 use Rattle.unit.proofs.MaskLaws.{bit_of_lem}
 use Rattle.unit.proofs.View.{view, low, shown_at_lem, shown_past}

@@ -25,7 +25,6 @@ use Rattle.seen.specs.Rules.{food_chemistry, rules_of}
 use Rattle.unit.specs.Claim.{is_accepted}
 use Rattle.unit.specs.Take.{taken_in}
 use Rattle.unit.specs.bounds.Numbers.{Capped, GoodSeen}
-use Rattle.unit.specs.declared.Unit as U
 use Rattle.unit.proofs.Dates.{good_of}
 use Rattle.unit.proofs.Sound.{Sound, accepted_reads}
 

@@ -1,6 +1,6 @@
 -- What a unit keeps of the steps since the last admission: the charts, the misses and the counts are those of the entries, and probation was opened
--- exactly where a ground stands. Kept by every line, and started anew by admission. Assumes nothing.
-use Prim.Native.Nat.{ℕ, zero, suc, ◌+◌, ◌*◌, ◌-◌, ◌≤◌, ◌<◌}
+-- exactly where a ground stands. Kept by a miss and by a sample, and started anew by admission. Assumes nothing.
+use Prim.Native.Nat.{ℕ, ◌*◌, ◌-◌, ◌≤◌, ◌<◌}
 use mathlib.Core.Path.{◌≡◌, refl, sym, ap, ap₂, ◌∙◌}
 use mathlib.Core.Bool.{Bool, true, false, cond, not, ◌&&◌, ◌||◌, or-false, or-true, or_assoc}
 use mathlib.Core.List.{List, [], ◌∷◌, ◌++◌, append-nil, append_assoc}
@@ -24,27 +24,23 @@ use Rattle.laws.proofs.Bools.{or_neither, and_fails}
 use Rattle.laws.proofs.EachLaws.{each_length, any_none, none_any}
 use Rattle.laws.proofs.Gathered.{with_one_more}
 use Rattle.laws.proofs.Order.{zarith}
-use Rattle.rows.specs.Rows.{first_row}
 use Rattle.seen.specs.Rules.{Rules}
 use Rattle.difference.specs.Contribution.{CHARTS}
 use Rattle.unit.specs.Charts.{charts_in, contribution_to, is_over, limit}
-use Rattle.unit.specs.Claim.{Step, is_admission, is_accepted, opens, opened_in, is_misidentification, misidentified_in, entry_by, entry_of, entry_in, entries_of}
-use Rattle.unit.specs.Set.{entered_of, passes_set}
-use Rattle.study.specs.Study.{SET}
+use Rattle.unit.specs.Claim.{Step, is_accepted, opens, opened_in, is_misidentification, misidentified_in, entry_by, entry_of, entry_in, entries_of}
 use Rattle.unit.specs.Stretch.{no_samples, sampled_of, chart_at, any_over}
-use Rattle.unit.specs.Take.{SECOND, ACCREDITED, PROBATION, CLOSED, no_misses, failed_stage, taken_as, missed_by, latest_after, sample_by, judged_by, study_by, accepted_by, taken_by_row, rows_in, taken_in}
+use Rattle.unit.specs.Take.{ACCREDITED, PROBATION, no_misses, taken_as, missed_by, latest_after, sample_by}
 use Rattle.unit.specs.bounds.Numbers.{GoodSeen}
 use Rattle.unit.specs.declared.Unit as U
 use Rattle.unit.specs.declared.Misses.{Misses}
 use Rattle.unit.specs.declared.chart.Chart.{Chart}
 use Rattle.reply.specs.Event.{event_byte}
 use Rattle.reply.specs.declared.event.Event.{Event}
-use Rattle.reply.specs.declared.event.Event.TheVariants.{Refused, Sample, Missed as MissedLine, UnderWay, Failed, ByCharts, ByMisses, ByMisidentifications}
+use Rattle.reply.specs.declared.event.Event.TheVariants.{Sample, Missed as MissedLine, ByCharts, ByMisses, ByMisidentifications}
 use Rattle.seen.specs.declared.Seen.{Seen}
-use Rattle.unit.specs.declared.set.Set.{Set}
 use Rattle.unit.specs.declared.stretch.Stretch.{Stretch}
-use Rattle.unit.proofs.Sound.{Sound, clear}
-use Rattle.unit.proofs.Taking.{Open, is_open}
+use Rattle.unit.proofs.Sound.{Sound}
+use Rattle.unit.proofs.Taking.{Open}
 use Rattle.unit.proofs.View.{view, empty_at, moves, low}
 
 -- a ground stands
@@ -70,27 +66,6 @@ not_over limit h = omega zarith
 none_over : (c : Constants) → any_over c no_samples.charts ≡ false
 none_over c =
     none_any (charts_in c) (λ (n : ℕ). is_over c n (chart_at no_samples.charts n)) (λ n h. ap (is_over c n) (empty_at n) ∙ not_over (limit c n) (low c n h))
-
-failed_elsewhere : (stage : ℕ) (A : Type 0) → failed_stage stage ≡ ACCREDITED → A
-failed_elsewhere stage A e = go (eqb stage 0) e
-  where
-    go : (b : Bool) → cond b SECOND CLOSED ≡ ACCREDITED → A
-    go true e = absurd (omega arith)
-    go false e = absurd (omega arith)
-
--- the events of a maintenance line are no admission
-missed_next : (b : Bool) (u : U.Unit) (m : ℕ) → is_admission (missed_by b u m).event ≡ false
-missed_next true u m = refl
-missed_next false u m = refl
-
-sample_next : (a b : Bool) (u : U.Unit) (m : ℕ) (t : Stretch) (n : List ℕ) → is_admission (sample_by a b u m t n).event ≡ false
-sample_next true b u m t n = refl
-sample_next false true u m t n = refl
-sample_next false false u m t n = refl
-
--- what is kept after a step
-abbrev pub next : List Step → List ℕ → Event → List Step
-next h line e = cond (is_admission e) [] (h ++ record { line = line; event = e } ∷ [])
 
 -- ---- one more step
 
@@ -124,7 +99,7 @@ module _ (g : Rules) where
   one_entry h x a e = entries_more h x ∙ ap (λ (es : List Entry). entries_of g h ++ es) e
 
   -- a step that leaves no entry and opens nothing, and leaves charts, misses and counts alone
-  idle : (u v : U.Unit) (h : List Step) (x : Step) → entry_in g x ≡ [] → opens x.event ≡ false → v.stretch ≡ u.stretch → v.misses ≡ u.misses
+  pub idle : (u v : U.Unit) (h : List Step) (x : Step) → entry_in g x ≡ [] → opens x.event ≡ false → v.stretch ≡ u.stretch → v.misses ≡ u.misses
       → v.latest ≡ u.latest → (v.stage ≡ ACCREDITED → u.stage ≡ ACCREDITED) → u.month ≤ v.month → Kept g u h → Kept g v (h ++ x ∷ [])
   idle u v h x e o s m n a l k = record {
     charted = rw (no_entry h x e, s) k.charted;
@@ -182,7 +157,7 @@ stage_is u x o k =
     let p = or_neither (not x.study && not (eqb u.stage ACCREDITED)) (x.study && eqb u.stage ACCREDITED) o.stage in
     eqb-true u.stage ACCREDITED (not-false _ (and_fails (not x.study) (not (eqb u.stage ACCREDITED)) (ap not k) p.0))
 
-not_before : (u : U.Unit) (x : Seen) → Open u x → u.month ≤ x.month
+pub not_before : (u : U.Unit) (x : Seen) → Open u x → u.month ≤ x.month
 not_before u x o = ltb-false x.month u.month o.backdated
 
 -- ---- what a line that no row refuses does: x is what it is to the unit
@@ -236,7 +211,7 @@ module _ (g : Rules) (sound : Sound g) (u : U.Unit) (h : List Step) (line : List
         miss = omega arith;
       }
 
-  missed_step : (b : Bool) → again u.misses.last x.month ≡ b → x.study ≡ false → x.missed ≡ true
+  pub missed_step : (b : Bool) → again u.misses.last x.month ≡ b → x.study ≡ false → x.missed ≡ true
       → Kept g (missed_by b u x.month).unit (h ++ step (missed_by b u x.month).event ∷ [])
   missed_step true a k m = missed_with ByMisses PROBATION true refl refl refl (λ (z : PROBATION ≡ ACCREDITED). absurd (omega arith)) a k m
   missed_step false a k m = rw (quiet k).unopened (missed_with MissedLine u.stage false refl refl refl (λ _. refl) a k m)
@@ -279,7 +254,7 @@ module _ (g : Rules) (sound : Sound g) (u : U.Unit) (h : List Step) (line : List
         miss = omega (arith, K.miss, later);
       }
 
-  sample_step : (a b : Bool) → is_broken latest ≡ a → any_over g.constants t.charts ≡ b → x.study ≡ false → x.missed ≡ false
+  pub sample_step : (a b : Bool) → is_broken latest ≡ a → any_over g.constants t.charts ≡ b → x.study ≡ false → x.missed ≡ false
       → Kept g (sample_by a b u x.month t latest).unit (h ++ step (sample_by a b u x.month t latest).event ∷ [])
   sample_step true b p q k m =
       sample_with ByMisidentifications PROBATION refl (sym p) (sym (ap (λ (r : Bool). r || any_over g.constants t.charts) p)) (λ (z : PROBATION ≡ ACCREDITED). absurd (omega arith)) k m
@@ -288,42 +263,3 @@ module _ (g : Rules) (sound : Sound g) (u : U.Unit) (h : List Step) (line : List
   sample_step false false p q k m =
       let none = ap₂ (λ (r s : Bool). r || s) p q in
       sample_with Sample u.stage refl (sym p) (sym none) (λ _. none) k m
-
-  -- ---- an accepted study line leaves no entry
-
-  study_entry : (e : Event) → is_accepted e ≡ true → x.study ≡ true → entry_in g (step e) ≡ []
-  study_entry e n k =
-      ap (λ (p : Bool). cond p (entry_of g.constants x) []) n ∙ ap (λ (p : Bool). cond p [] (entry_by x.missed g.constants x ∷ [])) k
-
-  judged_step : (b : Bool) → x.study ≡ true → Kept g (judged_by b u x.month).unit (next h line (judged_by b u x.month).event)
-  judged_step true k = fresh g _ refl refl refl
-  judged_step false k = idle g u _ h (step Failed) (study_entry Failed refl k) refl refl refl refl (λ z. failed_elsewhere u.stage _ z) later K
-
-  study_step : (b : Bool) (s : Set) → x.study ≡ true
-      → Kept g (study_by b g.constants u x.month s).unit (next h line (study_by b g.constants u x.month s).event)
-  study_step true s k = judged_step (passes_set g.constants s) k
-  study_step false s k = idle g u _ h (step (UnderWay s.lines)) (study_entry (UnderWay s.lines) refl k) refl refl refl refl (λ z. z) later K
-
-  accepted_step : (a b : Bool) → x.study ≡ a → x.missed ≡ b
-      → Kept g (accepted_by a b g.constants u x).unit (next h line (accepted_by a b g.constants u x).event)
-  accepted_step true b p q = let s = entered_of g.constants u.set x.differences in study_step (eqb s.lines SET) s p
-  accepted_step false true p q =
-      let b = again u.misses.last x.month in
-      rw (missed_next b u x.month) (missed_step b refl p q)
-  accepted_step false false p q =
-      let a = is_broken latest in
-      let b = any_over g.constants t.charts in
-      rw (sample_next a b u x.month t latest) (sample_step a b refl refl p q)
-
--- ---- every line
-
-pub step_kept : (g : Rules) → Sound g → (u : U.Unit) (h : List Step) (line : List ℕ) → Kept g u h → Kept g (taken_in g u line).unit (next h line (taken_in g u line).event)
-unfolding taken_in
-step_kept g sound u h line K = go (first_row (rows_in g u line)) refl
-  where
-    go : (n : ℕ) → first_row (rows_in g u line) ≡ n
-        → Kept g (taken_by_row n g.constants u (g.seen line)).unit (next h line (taken_by_row n g.constants u (g.seen line)).event)
-    go zero e =
-        let w = clear g sound u line e in
-        accepted_step g sound u h line (sound.good line w.reads) (is_open u (g.seen line) w.unit) K (g.seen line).study (g.seen line).missed refl refl
-    go (suc n) e = idle g u u h (record { line = line; event = Refused (suc n) }) refl refl refl refl refl (λ z. z) (omega arith) K

@@ -18,6 +18,7 @@ pub mod Months
 pub mod View
 pub mod MaskLaws
 pub mod Kept
+pub mod EveryLine
 pub mod Claimed
 pub mod ResidueUnitLaws
 pub mod MisidentifiedLaws

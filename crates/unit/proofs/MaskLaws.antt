@@ -1,12 +1,12 @@
--- The mask's bits: each is its chart's, and the mask is made from the last chart on. Assumes nothing.
-use Prim.Native.Nat.{ℕ, zero, suc, ◌+◌, ◌*◌, ◌-◌, ◌/◌, ◌%◌, ◌^◌, ◌≤◌, ◌<◌}
-use mathlib.Core.Path.{◌≡◌, refl, sym, ap, ap₂, ◌∙◌}
+-- The mask's bits: each is its chart's, and there is room for them. Assumes nothing.
+use Prim.Native.Nat.{ℕ, zero, suc, ◌+◌, ◌*◌, ◌/◌, ◌%◌, ◌^◌, ◌≤◌, ◌<◌}
+use mathlib.Core.Path.{◌≡◌, refl, sym, ap, ◌∙◌}
 use mathlib.Core.Bool.{Bool, true, false}
 use mathlib.Core.List.{List, [], ◌∷◌}
 use native.Mathlib.Nat.{div-div-eq-div-mul, pow-succ'}
 use native.Mathlib.Omega.{arith}
 use lib.Dec.{eqb, lit<}
-use lib.ListN.{length, get_or, drop, length-drop, drop_of_length-le}
+use lib.ListN.{length, get_or, drop, length-drop}
 use Rattle.difference.specs.Contribution.{CHARTS}
 use Rattle.reply.specs.Report.{bit_at, no_report}
 use Rattle.unit.specs.Status.{bit_of, mask_of}
@@ -38,23 +38,6 @@ pub bit_of_lem : (rows : List ChartReport) (c : ℕ) → bit_at c (mask_of rows)
 bit_of_lem [] c = no_bit c
 bit_of_lem (r ∷ rows) zero = bit_first r.over (mask_of rows)
 bit_of_lem (r ∷ rows) (suc c) = ap (λ (n : ℕ). eqb (n % 2) 1) (bit_step (bit_of r.over) (mask_of rows) c (bit_lt r.over)) ∙ bit_of_lem rows c
-
--- ---- from the last chart on
-
-pub mask_none : (rows : List ChartReport) → length rows ≡ CHARTS → mask_of (drop CHARTS rows) ≡ 0
-mask_none rows h = ap mask_of (drop_of_length-le rows {i = CHARTS} (omega arith))
-
-mask_more : (rows : List ChartReport) (n : ℕ) → n < length rows → bit_of (get_or rows n no_report).over + 2 * mask_of (drop (suc n) rows) ≡ mask_of (drop n rows)
-mask_more [] n h = absurd (omega arith)
-mask_more (r ∷ rows) zero h = refl
-mask_more (r ∷ rows) (suc n) h = mask_more rows n (omega arith)
-
--- one chart more
-pub mask_next : (rows : List ChartReport) (n : ℕ) {b m : ℕ} → 0 < n → n ≤ length rows → b ≡ bit_of (get_or rows (n - 1) no_report).over → m ≡ mask_of (drop n rows)
-    → b + 2 * m ≡ mask_of (drop (n - 1) rows)
-mask_next rows n p h eb em =
-    let next : n ≡ suc (n - 1) = omega arith in
-    ap₂ (λ (b m : ℕ). b + 2 * m) eb (em ∙ ap (λ (k : ℕ). mask_of (drop k rows)) next) ∙ mask_more rows (n - 1) (omega arith)
 
 -- k charts fill k bits
 within : (rows : List ChartReport) (k : ℕ) → length rows ≤ k → mask_of rows < 2 ^ k

@@ -40,7 +40,7 @@ pub record Places (a : ℕ) : Type 0 where
 pub places : (a : ℕ) → a < ANALYTES → Places a
 places a h = omega arith
 
--- the turn of analyte a, which contributes x
+-- the turn of analyte a, which contributes x, at charts that begin as start
 pub record Turn : Type 0 where
   pub c : Constants
   pub before : ℕ
@@ -54,13 +54,6 @@ pub record Turn : Type 0 where
   pub under : a < c.analytes
   pub gives : x ≡ contributions_of c (difference_at ds a)
 
--- and the charts where those before n are moved
-pub record Upto : Type 0 where
-  pub turn : Turn
-  pub n : ℕ
-  pub charts : List Chart
-  pub old : charts ≡ each_below n (moved_by turn.c turn.before turn.ds) turn.start
-
 -- a contribution goes to its chart as a word
 abbrev pub word : Contributions → ℕ → ℤ
 word x k = to_z w32 (of_z w32 (contribution_at x k))
@@ -72,15 +65,9 @@ mild x m (suc (suc zero)) = m.v
 mild x m (suc (suc (suc zero))) = m.d
 mild x m (suc (suc (suc (suc k)))) = omega arith
 
-module _ (u : Upto) where
-  abbrev t : Turn
-  t = u.turn
-
+module _ (t : Turn) where
   abbrev f : ℕ → Chart → Chart
   f = moved_by t.c t.before t.ds
-
-  pub at : Places t.a
-  at = places t.a (omega (arith, t.under, t.pre.0))
 
   small : (k : ℕ) → Moderate (contribution_at t.x k)
   small = mild t.x (subst AllModerate (sym t.gives) (bounds.moderate t.c (difference_at t.ds t.a) t.wide))
@@ -88,24 +75,21 @@ module _ (u : Upto) where
   word_back : (k : ℕ) → word t.x k ≡ contribution_at t.x k
   word_back k = back (contribution_at t.x k) (omega (arith, small k))
 
-  module _ {k m : ℕ} (p : Place t.a k u.n m) where
+  -- where the charts before n are moved
+  module _ {k n m : ℕ} (p : Place t.a k n m) {charts : List Chart} (old : charts ≡ each_below n (moved_by t.c t.before t.ds) t.start) where
     -- a chart not yet moved has the room that it had
-    pub asks : (t.before < FULL) × Roomy (chart_at u.charts u.n).value × Moderate (word t.x k)
+    pub asks : (t.before < FULL) × Roomy (chart_at charts n).value × Moderate (word t.x k)
     asks =
-        let there = ap (λ (l : List Chart). chart_at l u.n) u.old ∙ each_past u.n f t.start no_chart u.n (omega arith) in
-        let held : u.n < charts_in t.c = omega (arith, p.number, p.kind, t.under) in
-        (t.pre.1, subst (λ (k : Chart). Roomy k.value) (sym there) (t.pre.2 u.n held), subst Moderate (sym (word_back k)) (small k))
+        let there = ap (λ (l : List Chart). chart_at l n) old ∙ each_past n f t.start no_chart n (omega arith) in
+        let held : n < charts_in t.c = omega (arith, p.number, p.kind, t.under) in
+        (t.pre.1, subst (λ (k : Chart). Roomy k.value) (sym there) (t.pre.2 n held), subst Moderate (sym (word_back k)) (small k))
 
     -- and moves by what its analyte contributes to it
-    module _ {z : Chart} (e : z ≡ chart_of (chart_at u.charts u.n) t.before (word t.x k)) where
-      pub moved : set u.charts u.n z ≡ each_below m f t.start
-      moved =
-          let analyte : u.n / EACH ≡ t.a = omega (arith, p.number, p.kind) in
-          let kind : u.n % EACH ≡ k = omega (arith, p.number, p.kind) in
-          let given = ap (λ (y : Contributions). contribution_at y k) t.gives in
-          let to = ap₂ (λ (i j : ℕ). contribution_at (contributions_of t.c (difference_at t.ds i)) j) analyte kind in
-          let put = e ∙ ap (chart_of (chart_at u.charts u.n) t.before) (word_back k ∙ given ∙ sym to) in
-          each_next u.n f t.start no_chart (omega (arith, p.within, t.long)) u.old put ∙ ap (λ (i : ℕ). each_below i f t.start) p.next
-
-      abbrev pub next : Upto
-      next = record { turn = t; n = m; charts = set u.charts u.n z; old = moved }
+    pub moved : {z : Chart} → z ≡ chart_of (chart_at charts n) t.before (word t.x k) → set charts n z ≡ each_below m (moved_by t.c t.before t.ds) t.start
+    moved e =
+        let analyte : n / EACH ≡ t.a = omega (arith, p.number, p.kind) in
+        let kind : n % EACH ≡ k = omega (arith, p.number, p.kind) in
+        let given = ap (λ (y : Contributions). contribution_at y k) t.gives in
+        let to = ap₂ (λ (i j : ℕ). contribution_at (contributions_of t.c (difference_at t.ds i)) j) analyte kind in
+        let put = e ∙ ap (chart_of (chart_at charts n) t.before) (word_back k ∙ given ∙ sym to) in
+        each_next n f t.start no_chart (omega (arith, p.within, t.long)) old put ∙ ap (λ (i : ℕ). each_below i f t.start) p.next

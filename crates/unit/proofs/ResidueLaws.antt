@@ -12,11 +12,9 @@ use Rattle.difference.proofs.Bounds.{difference_small, residue_fits}
 use Rattle.field.proofs.ResidueLaws.{kind_is}
 use Rattle.residue_line.specs.Fields.{record_of}
 use Rattle.residue_line.specs.Read.{fields_at, line_rows, read_by, read_of}
-use Rattle.residue_line.specs.declared.fields.Fields.{Fields}
 use Rattle.residue_line.specs.declared.record.Record.{Record}
 use Rattle.residue_line.specs.declared.record.ResultLog.{ResultLog}
 use Rattle.residue_line.specs.declared.record.ResultLog.TheVariants.{Log, Lost}
-use Rattle.residue_line.specs.declared.record.Read.TheVariants.{Whole}
 use Rattle.residue_line.proofs.Inverse.{good}
 use Rattle.residue_line.proofs.RowLaws.{Clean, clean}
 use Rattle.rows.specs.Rows.{first_row, has_number, distinct}
@@ -26,7 +24,6 @@ use Rattle.seen.specs.Rules.{residues_of, rules_of}
 use Rattle.unit.specs.Claim.{is_accepted}
 use Rattle.unit.specs.Take.{taken_in}
 use Rattle.unit.specs.bounds.Numbers.{Capped, GoodSeen}
-use Rattle.unit.specs.declared.Unit as U
 use Rattle.unit.proofs.Dates.{good_of}
 use Rattle.unit.proofs.Sound.{Sound, accepted_reads}
 

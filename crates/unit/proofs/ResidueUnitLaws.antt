@@ -25,7 +25,7 @@ use Rattle.unit.specs.ResidueUnit.{OfResidues, FirstTaken, RowsNever, of_set, Se
 use Rattle.unit.specs.Reached.{after, replay}
 use Rattle.unit.specs.Status.{status_by}
 use Rattle.unit.specs.Stretch.{any_over, sampled_of}
-use Rattle.unit.specs.Take.{ACCREDITED, PROBATION, ROW_CLOSED, ROW_STAGE, ROW_GAP, closed_in, backdated_row, full_row, unit_rows, missed_by, latest_after, sample_by, accepted_by, taken_by_row, rows_in, taken_in, taken_of, new_of}
+use Rattle.unit.specs.Take.{ACCREDITED, PROBATION, ROW_CLOSED, ROW_STAGE, ROW_GAP, backdated_row, full_row, unit_rows, missed_by, latest_after, sample_by, accepted_by, taken_by_row, rows_in, taken_in, taken_of, new_of}
 use Rattle.unit.specs.declared.Taken.{Taken}
 use Rattle.unit.specs.declared.Unit as U
 use Rattle.unit.specs.declared.stretch.Stretch.{Stretch}

@@ -18,7 +18,7 @@ use Rattle.laws.proofs.Cond.{cases}
 use Rattle.laws.proofs.EachLaws.{each_length, each_at}
 use Rattle.unit.specs.Charts.{charts_in, no_chart, contribution_at, contribution_to, difference_at, moved_by}
 use Rattle.unit.specs.Stretch.{FULL, no_samples, earlier, sampled_of, chart_at}
-use Rattle.unit.specs.bounds.Numbers.{ChartsRoomy, StretchBounded}
+use Rattle.unit.specs.bounds.Numbers.{StretchBounded}
 use Rattle.unit.specs.declared.chart.Chart.{Chart}
 use Rattle.unit.specs.declared.stretch.Stretch.{Stretch}
 use Rattle.unit.proofs.Steps.{value_within, first_within}
@@ -54,10 +54,6 @@ module _ (c : Constants) (few : c.analytes ≤ ANALYTES) (fits : Fits c) (s : St
         (sym (each_at (charts_in c) (moved_by c (earlier s year) ds) s.charts no_chart n k (omega (arith, h.room))))
         (step_bounded (earlier s year) (chart_at s.charts n).value (contribution_to c ds n) (same_or_none year n k) (moderate_to c fits ds n));
   }
-
--- a full stretch leaves room
-pub roomy : (c : Constants) (s : Stretch) → StretchBounded c s → ChartsRoomy (charts_in c) s.charts
-roomy c s h n k = omega (arith, h.charts n k, h.samples)
 
 pub no_samples_bounded : (c : Constants) → StretchBounded c no_samples
 no_samples_bounded c = record {

@@ -7,7 +7,7 @@ ghost use Rattle.unit.specs.Stretch.{FULL};
 ghost use Rattle.unit.specs.bounds.Numbers.{Roomy};
 
 // A chart, the regulation's CUSUM: its value, and the first sample of the run shown.
-#[derive(Drop)]
+#[derive(Clone, Copy)]
 pub struct Chart {
     pub value: i32,
     pub first: u16,

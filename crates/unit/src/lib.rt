@@ -1,3 +1,5 @@
+#![tactic(auto)]
+
 // The check-sample unit: a new one, a line taken, and the status.
 mod chart;
 mod set;
@@ -28,7 +30,7 @@ use stretch::{Stretch, no_samples};
 
 // The misses since admission: the last one's month, 0 where there is none, and whether misses opened
 // probation.
-#[derive(Drop)]
+#[derive(Clone, Copy)]
 pub struct Misses {
     last: u32,
     opened: bool,
@@ -37,7 +39,7 @@ pub struct Misses {
 // A unit: its category, its stage, the last accepted line's month, 0 where there is none, the study
 // set under way, the stretch, the misses and the latest misidentification counts. Only `new_unit`,
 // `new_residue_unit` and `take` make one.
-#[derive(Drop)]
+#[derive(Clone, Copy)]
 pub struct Unit {
     category: Category,
     stage: u8,
@@ -49,14 +51,14 @@ pub struct Unit {
 }
 
 // What making a residue unit gives: 0 and the unit, or the number of the refusal and no unit of ours.
-#[derive(Drop)]
+#[derive(Clone, Copy)]
 pub struct Made {
     pub refusal: u8,
     pub unit: Unit,
 }
 
 // What taking a line gives: the event, and the unit after it.
-#[derive(Drop)]
+#[derive(Clone, Copy)]
 pub struct Taken {
     pub event: Event,
     pub unit: Unit,

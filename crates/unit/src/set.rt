@@ -13,7 +13,7 @@ use difference::difference::Difference;
 use study::{Sums, empty, passes};
 
 // The sums of each analyte over the set's lines so far.
-#[derive(Drop)]
+#[derive(Clone, Copy)]
 pub struct Set {
     pub lines: u8,
     pub sums: [Sums; ANALYTES],

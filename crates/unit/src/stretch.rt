@@ -12,7 +12,7 @@ use difference::contribution::{contribute, limit};
 use difference::difference::Difference;
 
 // The charts by number: 4 × analyte + 0 P, 1 N, 2 V, 3 D.
-#[derive(Drop)]
+#[derive(Clone, Copy)]
 pub struct Stretch {
     pub year: u16,
     pub samples: u16,
