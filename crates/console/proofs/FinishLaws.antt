@@ -17,7 +17,7 @@ use Rattle.console.specs.declared.Console.{Console}
 use Rattle.text.specs.Text.{NEWLINE, answer_text, status_text}
 use Rattle.console.specs.Lines.{ended, rest, last_line, lines_of}
 use Rattle.console.specs.Transcript.{answers, unit_after_all, printed_all, text_of, transcript}
-use Rattle.text.specs.Buffer.{with_text, SameFrom}
+use Rattle.text.specs.Buffer.{with_text, SameFrom, put_text, put_place}
 use Rattle.text.specs.bounds.Room.{ANSWER, STATUS}
 use Rattle.console.specs.bounds.Room.{FINAL}
 use Rattle.console.specs.State.{HELD, pending}
@@ -28,7 +28,7 @@ use Rattle.text.proofs.BufferLaws.{with_text_length, with_text_append, with_text
 use Rattle.console.proofs.LineLaws.{unit_append, answers_append, taken_cut}
 use Rattle.console.proofs.AnswerLaws.{line_given}
 use Rattle.console.proofs.StandLaws.{step_newline}
-use Rattle.text.proofs.PutLaws.{answer_length}
+use Rattle.text.proofs.PutLaws.{answer_length, put_there}
 use Rattle.text.proofs.StatusLaws.{status_length}
 
 module _ (c : Console) where
@@ -133,3 +133,12 @@ module _ (c : Console) (output : List ℕ) where
           ),
         ),
       )
+
+  -- the status is put behind the last line's answer
+  pub finished_put : (r w : ℕ) (middle exit : List ℕ) (u : U.Unit) (report : Report) → FINAL ≤ length output
+      → u ≡ last_unit c → w ≡ length (last_text c) → middle ≡ with_text output 0 (last_text c)
+      → report ≡ status_of u → r ≡ put_place STATUS middle w (status_text report) → exit ≡ put_text STATUS middle w (status_text report)
+      → Finished r exit
+  finished_put r w middle exit u report h e p t q n x =
+      let there = put_there STATUS middle w (status_text report) (last_room middle w h p t) in
+      finished_whole r w middle exit u report h e p t q (n ∙ there.0) (x ∙ there.1)

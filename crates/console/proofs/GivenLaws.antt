@@ -1,8 +1,7 @@
 -- An empty line is none to the unit. Assumes nothing.
 use Prim.Native.Nat.{ℕ}
-use mathlib.Core.Path.{◌≡◌, refl, sym, ap, ◌∙◌}
+use mathlib.Core.Path.{refl, sym, ap}
 use mathlib.Core.List.{List, [], ◌∷◌}
-use Rattle.difference.specs.declared.category.Category.{Category}
 use Rattle.reply.specs.declared.event.Event.{Event}
 use Rattle.unit.specs.Reached.{Reached as ReachedUnit}
 use Rattle.unit.specs.Take.{taken_of, new_of}

@@ -54,7 +54,7 @@ module _ (c : Console) (u : U.Unit) (xs : List ℕ) (x : ℕ) (s : Stands c u xs
 
   stands_ended : eqb x NEWLINE ≡ true → Stands (ended_of c) u (xs ++ x ∷ [])
   stands_ended e = record {
-    unit = rw (same_line.1, ended_newline [] xs x e) (sym (unit_append u (ended xs) (rest xs ∷ [])));
+    unit = same_line.1 ∙ rw (ended_newline [] xs x e) (sym (unit_append u (ended xs) (rest xs ∷ [])));
     fits = omega arith;
     size = s.size;
     part = rw (rest_newline [] xs x e);

@@ -1,5 +1,7 @@
 // The text around the unit: bytes in, bytes out, with no input or output of its own.
 
+#![tactic(auto)]
+
 mod newline;
 
 ghost use Rattle.std.specs.Prelude.{◌≡◌, ◌≤◌, length, take};
@@ -28,7 +30,7 @@ const HELD: usize = DIGITS + 1;
 const FINAL: usize = ANSWER + STATUS;
 
 // A unit, and the part of a line not yet ended: the first `held` bytes of `bytes`.
-#[derive(Drop)]
+#[derive(Clone, Copy)]
 pub struct Console {
     unit: Unit,
     held: usize,
@@ -36,7 +38,7 @@ pub struct Console {
 }
 
 // What feeding gives: the console after it, how many bytes it took, and how many it wrote.
-#[derive(Drop)]
+#[derive(Clone, Copy)]
 pub struct Fed {
     pub console: Console,
     pub taken: usize,
@@ -57,7 +59,7 @@ pub fn new_console(unit: Unit) -> Console
 }
 
 // How many bytes of a line not yet ended a console holds, and how many of the input were in it.
-#[derive(Drop)]
+#[derive(Clone, Copy)]
 struct Part {
     held: usize,
     end: usize,

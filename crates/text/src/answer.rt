@@ -2,7 +2,7 @@
 
 ghost use Rattle.std.specs.Prelude.{◌≡◌};
 ghost use Rattle.text.specs.Text.{event_bytes, answer_text};
-ghost use Rattle.text.specs.bounds.Room.{ANSWER};
+ghost use Rattle.text.specs.bounds.Room.{ANSWER as ANSWER_ROOM};
 ghost use Rattle.text.specs.Buffer.{put_text, put_place};
 
 use crate::hex::put_line;
@@ -32,8 +32,8 @@ fn bytes_of(event: Event) -> [u8; 2]
 // Puts an event into the buffer, from `at` on, and gives the place after it. Where there
 // is no room for it nothing changes.
 pub fn put_answer(event: Event, buffer: &mut [u8], at: usize) -> usize
-    ensures place { result ≡ put_place ANSWER buffer.old at (answer_text event) }
-    ensures text { buffer.new ≡ put_text ANSWER buffer.old at (answer_text event) }
+    ensures place { result ≡ put_place ANSWER_ROOM buffer.old at (answer_text event) }
+    ensures text { buffer.new ≡ put_text ANSWER_ROOM buffer.old at (answer_text event) }
 {
     if has_room(buffer.len(), at, ANSWER) {
         let bytes = bytes_of(event);

@@ -1,3 +1,5 @@
+#![tactic(auto)]
+
 // The text of events and reports, put into a buffer.
 pub mod answer;
 mod hex;

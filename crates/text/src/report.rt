@@ -3,7 +3,7 @@
 ghost use Rattle.std.specs.Prelude.{◌≡◌, ◌+◌, ◌≤◌, length};
 ghost use Rattle.difference.specs.Contribution.{CHARTS};
 ghost use Rattle.text.specs.Text.{misses_byte, stage_bytes, run_bytes, run_texts, status_text};
-ghost use Rattle.text.specs.bounds.Room.{RUNS, STATUS};
+ghost use Rattle.text.specs.bounds.Room.{RUNS, STATUS as STATUS_ROOM};
 ghost use Rattle.text.specs.Buffer.{with_text, put_text, put_place};
 
 use crate::hex::put_line;
@@ -73,8 +73,8 @@ fn put_charts(mask: u16, charts: [ChartReport; CHARTS], buffer: &mut [u8], at: u
 // Puts the status into the buffer, from `at` on, and gives the place after it. Where there might be no
 // room for it nothing changes.
 pub fn put_status(report: Report, buffer: &mut [u8], at: usize) -> usize
-    ensures place { result ≡ put_place STATUS buffer.old at (status_text report) }
-    ensures text { buffer.new ≡ put_text STATUS buffer.old at (status_text report) }
+    ensures place { result ≡ put_place STATUS_ROOM buffer.old at (status_text report) }
+    ensures text { buffer.new ≡ put_text STATUS_ROOM buffer.old at (status_text report) }
 {
     if has_room(buffer.len(), at, STATUS) {
         let bytes = stage_bytes(report);

@@ -1,0 +1,30 @@
+-- `put_answer` meets its contract: the line is that of the event's two bytes, where there is room for it.
+use Rattle.std.proofs.Common.{◌+◌, ◌≤◌, length, sym, ◌∙◌, arith}
+use borrow.Author.Tests.{leb-true}
+use Rattle.text.specs.Text.{answer_text}
+use Rattle.text.specs.bounds.Room.{ANSWER}
+use Rattle.text.proofs.PutLaws.{put_yes, put_no, answer_length}
+use Rattle.text.proofs.answer.put_answer.Goals as goal
+
+pub put_line-requires : goal.put_line-requires
+put_line-requires c =
+    let room : c.args.at + ANSWER ≤ length c.args.buffer.now = leb-true _ _ (sym c.has_room.ensures ∙ c.if-has_room.true) in
+    rw c.bytes_of-bytes.ensures (omega (arith, answer_length c.args.event))
+
+pub returns-then-has_room-clause-place : goal.returns-then-has_room-clause-place
+returns-then-has_room-clause-place c =
+    let yes = put_yes ANSWER c.args.buffer.now c.args.at (answer_text c.args.event) (sym c.has_room.ensures ∙ c.if-has_room.true) in
+    rw c.bytes_of-bytes.ensures at c.put_line.ensures.place ∙ sym yes.0
+
+pub returns-then-has_room-clause-text : goal.returns-then-has_room-clause-text
+returns-then-has_room-clause-text c =
+    let yes = put_yes ANSWER c.args.buffer.now c.args.at (answer_text c.args.event) (sym c.has_room.ensures ∙ c.if-has_room.true) in
+    rw c.bytes_of-bytes.ensures at c.put_line.ensures.text ∙ sym yes.1
+
+pub returns-else-has_room-clause-place : goal.returns-else-has_room-clause-place
+returns-else-has_room-clause-place c =
+    sym (put_no ANSWER c.args.buffer.now c.args.at (answer_text c.args.event) (sym c.has_room.ensures ∙ c.if-has_room.false)).0
+
+pub returns-else-has_room-clause-text : goal.returns-else-has_room-clause-text
+returns-else-has_room-clause-text c =
+    sym (put_no ANSWER c.args.buffer.now c.args.at (answer_text c.args.event) (sym c.has_room.ensures ∙ c.if-has_room.false)).1
