@@ -1,4 +1,8 @@
+#![tactic(auto)]
+
+use std::io;
+
 // Bytes 00 and ff, carriage returns and other garbage.
-fn main() {
-    terminal::run(unit::new_unit());
+fn main(rt: HostRuntime) -> io::Result<()> {
+    terminal::run(&rt, unit::new_unit())
 }

@@ -1,4 +1,8 @@
+#![tactic(auto)]
+
+use std::io;
+
 // A year that ends accredited close to the fat limit: chart 8 at its limit in November is not over.
-fn main() {
-    terminal::run(unit::new_unit());
+fn main(rt: HostRuntime) -> io::Result<()> {
+    terminal::run(&rt, unit::new_unit())
 }

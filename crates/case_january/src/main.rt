@@ -1,4 +1,8 @@
+#![tactic(auto)]
+
+use std::io;
+
 // A chart is not carried into January.
-fn main() {
-    terminal::run(unit::new_unit());
+fn main(rt: HostRuntime) -> io::Result<()> {
+    terminal::run(&rt, unit::new_unit())
 }

@@ -1,4 +1,8 @@
+#![tactic(auto)]
+
+use std::io;
+
 // A set failed on probation closes the unit, and the grounds are still shown.
-fn main() {
-    terminal::run(unit::new_unit());
+fn main(rt: HostRuntime) -> io::Result<()> {
+    terminal::run(&rt, unit::new_unit())
 }

@@ -1,4 +1,8 @@
+#![tactic(auto)]
+
+use std::io;
+
 // Each refusal from 1 to 12 once, with an accepted line after it showing that nothing moved.
-fn main() {
-    terminal::run(unit::new_unit());
+fn main(rt: HostRuntime) -> io::Result<()> {
+    terminal::run(&rt, unit::new_unit())
 }

@@ -1,4 +1,8 @@
+#![tactic(auto)]
+
+use std::io;
+
 // A year of 999 samples, misses 12 and 11 months apart, and what follows.
-fn main() {
-    residue_program::run();
+fn main(rt: HostRuntime) -> io::Result<()> {
+    residue_program::run(&rt)
 }

@@ -1,4 +1,8 @@
+#![tactic(auto)]
+
+use std::io;
+
 // One misidentification in each of two neighbouring samples, a missed line and refused ones between them, and what follows.
-fn main() {
-    residue_program::run();
+fn main(rt: HostRuntime) -> io::Result<()> {
+    residue_program::run(&rt)
 }

@@ -1,4 +1,8 @@
+#![tactic(auto)]
+
+use std::io;
+
 // Admission after probation by misses clears the grounds, and charts open probation again.
-fn main() {
-    terminal::run(unit::new_unit());
+fn main(rt: HostRuntime) -> io::Result<()> {
+    terminal::run(&rt, unit::new_unit())
 }

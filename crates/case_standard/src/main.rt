@@ -2,13 +2,17 @@
 // for each the standardizing value, d and the contributions to P, N, V and D, or its refusal:
 // `standardize` run on rows whose answers were worked out independently.
 
+#![tactic(auto)]
+
 ghost use Rattle.std.specs.Prelude.{◌≡◌, ◌<◌, length};
 ghost use Rattle.case_standard.specs.Answer.{DIGITS, pair_at, answer_of};
 
 use difference::standardize::{Figures, Standardized, standardize};
 use digits::{Hex, byte_in, two};
-use libc::{STDIN_FILENO, STDOUT_FILENO};
 use rows::refusal::DIGIT;
+
+// The descriptor of standard input.
+const STDIN: i32 = 0;
 
 // How many digits a row has. A newline follows them.
 const DIGITS: usize = 12;
@@ -48,51 +52,41 @@ fn answer(row: &[u8]) -> Standardized
 }
 
 // A number after a space, with a minus where it is below 0.
-fn print_after(z: i32) {
-    let wide = z as i64;
-    if wide < 0 {
-        io::write_all(STDOUT_FILENO, b" -");
-        io::print_decimal(STDOUT_FILENO, (-wide) as u64);
-    } else {
-        io::write_all(STDOUT_FILENO, b" ");
-        io::print_decimal(STDOUT_FILENO, wide as u64);
-    }
+fn print_after(rt: &impl Print, z: i32) -> std::io::Result<()> {
+    print!(rt; " {z}")
 }
 
-fn print_figures(r: Figures) {
-    io::print_decimal(STDOUT_FILENO, r.value as u64);
-    print_after(r.difference);
-    print_after(r.p);
-    print_after(r.n);
-    print_after(r.v);
-    print_after(r.d);
+fn print_figures(rt: &impl Print, r: Figures) -> std::io::Result<()> {
+    print!(rt; "{}", r.value)?;
+    print_after(rt, r.difference)?;
+    print_after(rt, r.p)?;
+    print_after(rt, r.n)?;
+    print_after(rt, r.v)?;
+    print_after(rt, r.d)
 }
 
-fn print_answer(row: &[u8])
+fn print_answer(rt: &impl Print, row: &[u8]) -> std::io::Result<()>
     requires { length row.now ≡ DIGITS }
 {
     match answer(row) {
-        Standardized::Refused(number) => {
-            io::write_all(STDOUT_FILENO, b"refused ");
-            io::print_decimal(STDOUT_FILENO, number as u64);
-        }
-        Standardized::Given(r) => print_figures(r),
+        Standardized::Refused(number) => print!(rt; "refused {number}")?,
+        Standardized::Given(r) => print_figures(rt, r)?,
     }
-    io::write_all(STDOUT_FILENO, b"\n");
+    println!(rt; "")
 }
 
 // Each row is ended by a newline.
-fn print_answers(rows: &[u8]) {
+fn print_answers(rt: &impl Print, rows: &[u8]) -> std::io::Result<()> {
     let mut at = 0;
     while DIGITS < rows.len() - at {
-        print_answer(&rows[at..at + DIGITS]);
+        print_answer(rt, &rows[at..at + DIGITS])?;
         at += DIGITS + 1;
     }
+    Ok(())
 }
 
-// The rows of the case are far fewer than the buffer holds.
-fn main() {
+fn main(rt: HostRuntime) -> std::io::Result<()> {
     let mut input = io::large_buffer();
-    let n = io::read_full(STDIN_FILENO, &mut input);
-    print_answers(&input[..n]);
+    let n = io::read_full(STDIN, &mut input);
+    print_answers(&rt, &input[..n])
 }

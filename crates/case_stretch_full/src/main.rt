@@ -1,4 +1,8 @@
+#![tactic(auto)]
+
+use std::io;
+
 // A stretch of 999 samples, the refusal after it, and a new year.
-fn main() {
-    terminal::run(unit::new_unit());
+fn main(rt: HostRuntime) -> io::Result<()> {
+    terminal::run(&rt, unit::new_unit())
 }

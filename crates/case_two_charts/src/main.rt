@@ -1,4 +1,8 @@
+#![tactic(auto)]
+
+use std::io;
+
 // Two charts over at once, on different analytes.
-fn main() {
-    terminal::run(unit::new_unit());
+fn main(rt: HostRuntime) -> io::Result<()> {
+    terminal::run(&rt, unit::new_unit())
 }

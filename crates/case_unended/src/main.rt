@@ -1,4 +1,8 @@
+#![tactic(auto)]
+
+use std::io;
+
 // An unended last line counts.
-fn main() {
-    terminal::run(unit::new_unit());
+fn main(rt: HostRuntime) -> io::Result<()> {
+    terminal::run(&rt, unit::new_unit())
 }

@@ -2,12 +2,16 @@
 // that the step gives for the word of them, as eight digits, or `refused` and its number: `read_word`
 // run on words whose answers were worked out independently.
 
+#![tactic(auto)]
+
 ghost use Rattle.std.specs.Prelude.{◌≡◌, length};
 ghost use Rattle.digits.specs.Word.{CHARACTERS};
 ghost use Rattle.case_word.specs.Answer.{answer_of};
 
 use digits::{WordBytes, eight, read_word};
-use libc::{STDIN_FILENO, STDOUT_FILENO};
+
+// The descriptor of standard input.
+const STDIN: i32 = 0;
 
 // How many characters a row has, and how many bytes with its newline.
 const CHARACTERS: usize = 8;
@@ -24,31 +28,25 @@ fn answer(row: &[u8]) -> WordBytes
     ))
 }
 
-fn print_answer(row: &[u8])
+fn print_answer(rt: &impl Print, row: &[u8]) -> std::io::Result<()>
     requires { length row.now ≡ CHARACTERS }
 {
     match answer(row) {
-        WordBytes::Refused(number) => {
-            io::write_all(STDOUT_FILENO, b"refused ");
-            io::print_decimal(STDOUT_FILENO, number as u64);
-        }
-        WordBytes::Four(four) => {
-            io::print_hex(STDOUT_FILENO, four as u64, CHARACTERS);
-        }
+        WordBytes::Refused(number) => println!(rt; "refused {number}"),
+        WordBytes::Four(four) => println!(rt; "{four:08x}"),
     }
-    io::write_all(STDOUT_FILENO, b"\n");
 }
 
-fn print_answers(rows: &[u8]) {
+fn print_answers(rt: &impl Print, rows: &[u8]) -> std::io::Result<()> {
     for i in 0..rows.len() / ROW {
         let at = ROW * i;
-        print_answer(&rows[at..at + CHARACTERS]);
+        print_answer(rt, &rows[at..at + CHARACTERS])?;
     }
+    Ok(())
 }
 
-// The rows of the case are fewer than the buffer holds.
-fn main() {
+fn main(rt: HostRuntime) -> std::io::Result<()> {
     let mut input = io::large_buffer();
-    let n = io::read_full(STDIN_FILENO, &mut input);
-    print_answers(&input[..n]);
+    let n = io::read_full(STDIN, &mut input);
+    print_answers(&rt, &input[..n])
 }

@@ -1,5 +1,9 @@
+#![tactic(auto)]
+
+use std::io;
+
 // The program for residues: answers the lines of standard input on standard output, and then gives the
 // status.
-fn main() {
-    residue_program::run();
+fn main(rt: HostRuntime) -> io::Result<()> {
+    residue_program::run(&rt)
 }

@@ -1,4 +1,8 @@
+#![tactic(auto)]
+
+use std::io;
+
 // The program: answers the lines of standard input on standard output, and then gives the status.
-fn main() {
-    terminal::run(unit::new_unit());
+fn main(rt: HostRuntime) -> io::Result<()> {
+    terminal::run(&rt, unit::new_unit())
 }

@@ -1,6 +1,8 @@
 // Reads lines on standard input and prints for each the number of its refusal, as two digits, or
 // the line written back.
 
+#![tactic(auto)]
+
 mod answer;
 mod food;
 mod residue;
@@ -10,7 +12,9 @@ ghost use Rattle.lines.specs.Answer.{ANSWER, answer_of};
 
 use answer::{ANSWER, NEWLINE};
 use difference::category::Category;
-use libc::{STDIN_FILENO, STDOUT_FILENO};
+
+// The descriptor of standard input.
+const STDIN: i32 = 0;
 
 // What is printed for a line, put at the start of `out`, and how many bytes that are.
 fn put_answer(category: Category, line: &[u8], out: &mut [u8]) -> usize
@@ -24,10 +28,10 @@ fn put_answer(category: Category, line: &[u8], out: &mut [u8]) -> usize
     }
 }
 
-fn print_answer(category: Category, line: &[u8]) {
+fn print_answer(rt: &impl Print, category: Category, line: &[u8]) -> std::io::Result<()> {
     let mut out = [0u8; ANSWER];
     let n = put_answer(category, line, &mut out);
-    io::write_all(STDOUT_FILENO, &out[..n]);
+    rt.write_all(&out[..n])
 }
 
 // The index of the first newline, or the length where there is none.
@@ -47,19 +51,20 @@ fn newline(bytes: &[u8]) -> usize
 }
 
 // An unended last line counts if it is not empty.
-fn print_answers(category: Category, input: &[u8]) {
+fn print_answers(rt: &impl Print, category: Category, input: &[u8]) -> std::io::Result<()> {
     let mut at = 0;
     while at < input.len() {
         let n = newline(&input[at..]);
-        print_answer(category, &input[at..at + n]);
+        print_answer(rt, category, &input[at..at + n])?;
         at += n + 1;
     }
+    Ok(())
 }
 
-// Answers the lines of standard input, of a category, which are far fewer than the buffer holds. It lends and hands
-// back nothing, and no contract can speak of what is read and written.
-pub fn run(category: Category) {
+// Answers the lines of standard input, of a category, which are far fewer than the buffer holds. It lends nothing and
+// hands back the error, if a write failed, and no contract can speak of what is read and written.
+pub fn run(rt: &impl Print, category: Category) -> std::io::Result<()> {
     let mut input = io::large_buffer();
-    let n = io::read_full(STDIN_FILENO, &mut input);
-    print_answers(category, &input[..n]);
+    let n = io::read_full(STDIN, &mut input);
+    print_answers(rt, category, &input[..n])
 }
