@@ -1,34 +1,29 @@
 -- Document 02, request One, computed: figures of residues, the compounds that a unit is made of, a line read and a record written, and the claim applied
 -- to three lists of lines of compound 4. On `by_run` a run opens probation, on `by_misses` two misses do, and on `calm` nothing does.
-use Rattle.std.specs.Prelude.{ℕ, ◌<◌, ◌≡◌, refl, Bool, true, false, ◌⊎◌, List, [], ◌∷◌, ◌++◌, map, ℤ, pos, neg_ℤ, replicate}
-use Rattle.std.proofs.Common.{sym, true≢false, lit<}
-use Rattle.grounds.specs.Chart.{next_value, next_first, over, value_after}
+use Rattle.std.specs.Prelude.{ℕ, ◌<◌, ◌≡◌, Bool, true, false, ◌⊎◌, List, [], ◌∷◌, ◌++◌, map, ℤ, pos, neg_ℤ, replicate}
+use Rattle.grounds.specs.Chart.{over, value_after}
 use Rattle.grounds.specs.Claim.{TwoMisses, Misidentified, SomeRun, RightRun}
 use Rattle.grounds.specs.Entry.{Entry, misses, stretch, on_chart}
-use Rattle.digits.specs.Digits.{is_digit, digit_value, digit_of, are_digits, bytes_of, digits_of}
-use Rattle.digits.specs.Signed.{signed_by}
-use Rattle.field.specs.Refused.{LOST, date_row}
-use Rattle.format.specs.Write.{written_by, buffer_by}
+use Rattle.digits.specs.Digits.{digits_of}
+use Rattle.field.specs.Refused.{LOST}
 use Rattle.format.specs.declared.Written.TheVariants.{Done, Refused as Unwritten}
-use Rattle.field.specs.Residue.{RESIDUE_KIND, RESULT, residue_kind_row, no_compound, compound_row, outside, log_row, result_row}
-use Rattle.residue_line.specs.Fields.{bytes_in, result_of, tag_of, log_of, record_of}
-use Rattle.residue_line.specs.Read.{fields_at, read_by, read_of}
+use Rattle.field.specs.Residue.{RESIDUE_KIND, RESULT}
+use Rattle.residue_line.specs.Fields.{bytes_in, record_of}
+use Rattle.residue_line.specs.Read.{fields_at, read_of}
 use Rattle.residue_line.specs.Write.{written_of, buffer_after}
 use Rattle.residue_line.specs.declared.record.Read.TheVariants.{Whole, Refused as Unread}
-use Rattle.rows.specs.Rows.{first_row}
-use Rattle.difference.specs.Contribution.{residue, limit_of, increment_of, variable_of, measure_of, contributions_of}
+use Rattle.difference.specs.Contribution.{residue, limit_of, contributions_of}
 use Rattle.difference.specs.Residue.{residue_difference}
 use Rattle.difference.specs.declared.category.Category.{Category}
 use Rattle.difference.specs.declared.category.Category.TheVariants.{Residue}
 use Rattle.seen.specs.Rules.{rules_of}
 use Rattle.unit.specs.Charts.{charts_in, limit}
-use Rattle.unit.specs.Claim.{history, since, opened_in, entries_of, shown_at, ClaimOf}
+use Rattle.unit.specs.Claim.{history, since, opened_in, entries_of, shown_at}
 use Rattle.unit.specs.Reached.{replay}
-use Rattle.unit.specs.Status.{status_by, status_of}
-use Rattle.unit.specs.Take.{ACCREDITED, CLOSED, new_of, made_of, taken_in, taken_of}
+use Rattle.unit.specs.Status.{status_of}
+use Rattle.unit.specs.Take.{ACCREDITED, CLOSED, new_of, made_of, taken_of}
 use Rattle.reply.specs.declared.event.Event.TheVariants.{Refused}
 use Rattle.reply.specs.declared.report.Report.{Report}
-use Rattle.unit.proofs.Claimed.{claim_holds}
 
 -- ---- the lines
 
@@ -150,37 +145,3 @@ pub record Residues : Type 0 where
   pub calm_status : ((shown calm).stage ≡ 2) × ((shown calm).samples ≡ 12) × ((shown calm).mask ≡ 0) × ((shown calm).misses ≡ false)
   -- so, by the claim, there are no two such misses, no window with too many misidentifications and no such run on any chart
   pub calm_holds : ¬ (TwoMisses (entries calm) ⊎ Misidentified (entries calm) ⊎ ((c : ℕ) × (c < charts_in residue) × SomeRun (limit residue) (entries calm) c))
-
-pub claim_of : (ls : List (List ℕ)) → ClaimOf category ls (shown ls)
-claim_of ls = claim_holds category ls (replay category ls) refl
-
-pub residues : Residues
-unfolding is_digit digit_value digit_of are_digits bytes_of digits_of signed_by result_of tag_of log_of read_by read_of written_by buffer_by written_of buffer_after first_row residue_kind_row date_row no_compound compound_row outside log_row result_row next_value next_first increment_of variable_of measure_of status_by taken_in
-residues = record {
-  halves = (refl, refl, refl);
-  values = (refl, refl, refl);
-  cap = refl;
-  turns = (refl, refl, refl, refl);
-  limits = (refl, refl, refl, refl);
-  made = (refl, refl, refl, refl);
-  made_of_lem = (refl, refl, refl, refl);
-  line_is = refl;
-  line_read = (refl, refl, refl);
-  long_refused = refl;
-  write_refused = (refl, refl, refl);
-  write_done = (refl, refl);
-  run_opened = refl;
-  run_status = (refl, refl, refl, refl);
-  run_shown = refl;
-  run_samples = refl;
-  run_exists = ((claim_of by_run).charts 0 (lit< tt)).0 refl;
-  run_right = (claim_of by_run).runs 0 (lit< tt) refl;
-  run_after = refl;
-  misses_opened = refl;
-  misses_status = (refl, refl, refl, refl);
-  misses_months = refl;
-  misses_near = (claim_of by_misses).misses.0 refl;
-  calm_opened = refl;
-  calm_status = (refl, refl, refl, refl);
-  calm_holds = λ g. true≢false (sym ((claim_of calm).opened.1 g));
-}

@@ -1,13 +1,12 @@
 -- Document 01, "Figures for the table of examples": theorems about the rules, held in one table and proved together.
-use Rattle.std.specs.Prelude.{ℕ, ◌≡◌, refl, Bool, true, false, List, [], ◌∷◌, ◌++◌, ℤ, pos, neg_ℤ, length, replicate}
+use Rattle.std.specs.Prelude.{ℕ, ◌≡◌, Bool, true, false, List, [], ◌∷◌, ◌++◌, ℤ, pos, neg_ℤ, length, replicate}
 use Rattle.std.specs.Float.{binary32}
 use Rattle.std.specs.Float.Ieee.{of_bits}
-use Rattle.grounds.specs.Chart.{next_value, next_first, over, value_after, first_after}
+use Rattle.grounds.specs.Chart.{over, value_after, first_after}
 use Rattle.percent.specs.Percent.{accepted, hundredths_of}
 use Rattle.field.specs.Refused.{reading_row}
-use Rattle.difference.specs.Contribution.{food, limit_of, increment_of, variable_of, measure_of, contributions_of}
-use Rattle.difference.specs.Difference.{power_of, root_of, salt, coefficient_for, value_of, difference_of}
-use Rattle.difference.specs.Largest.{root_from}
+use Rattle.difference.specs.Contribution.{food, limit_of, measure_of, contributions_of}
+use Rattle.difference.specs.Difference.{power_of, root_of, value_of, difference_of}
 use Rattle.study.specs.Study.{sums_of, passes_of}
 
 -- the standardized difference d of a reading h hundredths above the mean
@@ -52,21 +51,3 @@ pub record Table : Type 0 where
   -- 18 of 11 and 18 of -11 pass; with 12 they fail
   pub L : (set_of (replicate 18 (pos 11) ++ replicate 18 (neg_ℤ (pos 11))) ≡ true)
       × (set_of (replicate 18 (pos 12) ++ replicate 18 (neg_ℤ (pos 12))) ≡ false)
-
-pub table : Table
-unfolding hundredths_of accepted reading_row of_bits root_from coefficient_for salt increment_of variable_of measure_of next_value next_first sums_of passes_of
-table =
-    record {
-      A = refl;
-      B = (refl, refl, refl, refl);
-      C = (refl, refl);
-      D = refl;
-      E = (refl, refl);
-      F = λ m. (refl, refl, refl);
-      G = (refl, refl, refl, refl);
-      H = (refl, refl, refl, refl, refl);
-      I = (refl, refl);
-      J = (refl, refl, refl, refl);
-      K = (refl, refl);
-      L = (refl, refl);
-    }

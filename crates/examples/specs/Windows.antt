@@ -1,25 +1,18 @@
 -- Document 02, request Three, computed: misidentifications in lists of lines of compound 4, and the claim applied to them. On `by_first` one sample breaks a
 -- window, on `by_two` two do, on `by_eight` eight, on `by_both` a chart is over too, and on `apart` and `three_apart` nothing is opened.
-use Rattle.std.specs.Prelude.{ℕ, ◌≡◌, refl, true, false, List, [], ◌∷◌, ◌++◌, map, pos, neg_ℤ, replicate}
-use Rattle.std.proofs.Common.{sym, true≢false, lit<}
-use Rattle.grounds.specs.Chart.{next_value, next_first}
+use Rattle.std.specs.Prelude.{ℕ, ◌≡◌, true, false, List, [], ◌∷◌, ◌++◌, map, pos, neg_ℤ, replicate}
 use Rattle.grounds.specs.Claim.{Misidentified, SomeRun}
 use Rattle.grounds.specs.Entry.{counts}
-use Rattle.digits.specs.Digits.{is_digit, digit_value, digit_of, are_digits, bytes_of, digits_of}
-use Rattle.digits.specs.Signed.{signed_by}
-use Rattle.field.specs.Refused.{LOST, date_row}
-use Rattle.field.specs.Residue.{RESULT, residue_kind_row, no_compound, compound_row, outside, log_row, result_row}
-use Rattle.residue_line.specs.Fields.{result_of, tag_of, log_of}
-use Rattle.rows.specs.Rows.{first_row}
-use Rattle.difference.specs.Contribution.{residue, increment_of, variable_of, measure_of}
+use Rattle.field.specs.Refused.{LOST}
+use Rattle.field.specs.Residue.{RESULT}
+use Rattle.difference.specs.Contribution.{residue}
 use Rattle.unit.specs.Charts.{limit}
 use Rattle.unit.specs.Claim.{Step, history, shown_at}
 use Rattle.unit.specs.Reached.{replay}
-use Rattle.unit.specs.Status.{status_by}
-use Rattle.unit.specs.Take.{taken_in, taken_of}
+use Rattle.unit.specs.Take.{taken_of}
 use Rattle.reply.specs.declared.event.Event.{Event}
 use Rattle.reply.specs.declared.event.Event.TheVariants.{Refused, Sample, Missed, ByMisidentifications}
-use Rattle.examples.specs.Residue.{compound, category, counted_line, entries, opened, shown, claim_of}
+use Rattle.examples.specs.Residue.{compound, category, counted_line, entries, opened, shown}
 
 -- ---- the lines
 
@@ -89,25 +82,3 @@ pub record Windows : Type 0 where
   pub apart_none : (opened apart ≡ false) × (Misidentified (entries apart) → ⊥)
   pub three_events : events three_apart ≡ replicate 9 Sample
   pub three_none : (opened three_apart ≡ false) × (Misidentified (entries three_apart) → ⊥)
-
-pub windows : Windows
-unfolding is_digit digit_value digit_of are_digits bytes_of digits_of signed_by result_of tag_of log_of first_row residue_kind_row date_row no_compound compound_row outside log_row result_row next_value next_first increment_of variable_of measure_of status_by taken_in
-windows = record {
-  first_events = refl;
-  two_events = refl;
-  two_counts = refl;
-  two_status = (refl, refl, refl, refl);
-  two_after = refl;
-  two_window = (claim_of by_two).misidentified.0 refl;
-  eight_events = refl;
-  eight_status = (refl, refl, refl, refl);
-  eight_window = (claim_of by_eight).misidentified.0 refl;
-  both_events = refl;
-  both_status = (refl, refl, refl, refl);
-  both_shown = refl;
-  both_exist = ((claim_of by_both).misidentified.0 refl, ((claim_of by_both).charts 1 (lit< tt)).0 refl);
-  apart_events = refl;
-  apart_none = (refl, λ w. true≢false (sym ((claim_of apart).misidentified.1 w)));
-  three_events = refl;
-  three_none = (refl, λ w. true≢false (sym ((claim_of three_apart).misidentified.1 w)));
-}

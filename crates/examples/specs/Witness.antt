@@ -1,38 +1,27 @@
 -- What the promises speak of is there, computed on real lines: a line is refused and one is taken, a record is written and one refused, and the claim is
 -- applied to three lists. On `by_run` a run opens probation, on `by_misses` two misses do, and on `calm` nothing does. Each list starts with a study set
 -- that passes.
-use Rattle.std.specs.Prelude.{ℕ, ◌<◌, ◌≡◌, refl, Bool, true, false, ◌⊎◌, List, [], ◌∷◌, ◌++◌, map, pos, neg_ℤ, replicate}
-use Rattle.std.proofs.Common.{sym, true≢false, lit<}
-use Rattle.std.specs.Float.Ieee.{of_bits, to_bits}
-use Rattle.grounds.specs.Chart.{next_value, next_first}
+use Rattle.std.specs.Prelude.{ℕ, ◌<◌, ◌≡◌, Bool, true, false, ◌⊎◌, List, [], ◌∷◌, ◌++◌, map, pos, neg_ℤ, replicate}
 use Rattle.grounds.specs.Claim.{TwoMisses, Misidentified, SomeRun, RightRun}
 use Rattle.grounds.specs.Entry.{Entry, misses, stretch, on_chart, years}
-use Rattle.digits.specs.Digits.{is_digit, digit_value, digit_of, are_digits, bytes_of, digits_of}
-use Rattle.field.specs.Refused.{PERCENT, LOST, kind_row, date_row, product_row, mean_row, reading_row, MAINTENANCE, STUDY}
-use Rattle.food_line.specs.Fields.{bytes_in, reading_of, tagged_of, record_of}
-use Rattle.food_line.specs.Amount.{amount_of}
-use Rattle.percent.specs.Percent.{accepted, hundredths_of}
-use Rattle.food_line.specs.Read.{fields_at, read_by, read_of}
-use Rattle.rows.specs.Rows.{first_row}
+use Rattle.digits.specs.Digits.{digits_of}
+use Rattle.field.specs.Refused.{PERCENT, LOST, MAINTENANCE, STUDY}
+use Rattle.food_line.specs.Fields.{bytes_in, record_of}
+use Rattle.food_line.specs.Read.{fields_at, read_of}
 use Rattle.food_line.specs.Write.{written_of, buffer_after}
-use Rattle.format.specs.Write.{written_by, buffer_by}
 use Rattle.field.specs.declared.Tagged.{Tagged}
 use Rattle.food_line.specs.declared.record.Record.{Record}
 use Rattle.food_line.specs.declared.record.Read.TheVariants.{Whole}
 use Rattle.format.specs.declared.Written.TheVariants.{Done, Refused as Unwritten}
 use Rattle.unit.specs.Charts.{charts_in, limit}
-use Rattle.unit.specs.Claim.{history, since, opened_in, entries_of, shown_at, ClaimOf}
+use Rattle.unit.specs.Claim.{history, since, opened_in, entries_of, shown_at}
 use Rattle.difference.specs.declared.category.Category.TheVariants.{Food}
 use Rattle.seen.specs.Rules.{food_chemistry}
-use Rattle.difference.specs.Contribution.{food, increment_of, variable_of, measure_of}
-use Rattle.difference.specs.Difference.{fat, salt, coefficient_for}
-use Rattle.difference.specs.Largest.{root_from}
+use Rattle.difference.specs.Contribution.{food}
 use Rattle.unit.specs.Reached.{replay}
-use Rattle.unit.specs.Status.{status_by, status_of}
-use Rattle.study.specs.Study.{passes_of}
-use Rattle.unit.specs.Take.{new_unit, taken_in, taken_of}
+use Rattle.unit.specs.Status.{status_of}
+use Rattle.unit.specs.Take.{new_unit, taken_of}
 use Rattle.reply.specs.declared.event.Event.TheVariants.{Refused, UnderWay}
-use Rattle.unit.proofs.Claimed.{claim_holds}
 
 -- ---- the lines
 
@@ -152,31 +141,3 @@ pub record Witness : Type 0 where
   pub calm_status : Status calm 2 12 0 false
   -- so, by the claim, there are no two such misses, no window with too many misidentifications and no such run on any chart
   pub calm_holds : ¬ (TwoMisses (entries calm) ⊎ Misidentified (entries calm) ⊎ ((c : ℕ) × (c < charts_in food) × SomeRun (limit food) (entries calm) c))
-
-claim_of : (ls : List (List ℕ)) → ClaimOf Food ls (status_of (replay Food ls))
-claim_of ls = claim_holds Food ls (replay Food ls) refl
-
-pub witness : Witness
-unfolding is_digit digit_value digit_of are_digits bytes_of digits_of reading_of tagged_of to_bits written_by buffer_by written_of buffer_after accepted hundredths_of amount_of read_by read_of first_row kind_row date_row product_row mean_row reading_row next_value next_first increment_of variable_of measure_of fat salt coefficient_for root_from status_by passes_of taken_in of_bits
-witness = record {
-  line_is = refl;
-  line_refused = refl;
-  line_read = refl;
-  line_taken = refl;
-  write_refused = (refl, refl);
-  write_done = (refl, refl);
-  run_opened = refl;
-  run_status = record { stage_is = refl; samples_are = refl; mask_is = refl; misses_are = refl };
-  run_shown = refl;
-  run_samples = refl;
-  run_exists = ((claim_of by_run).charts 0 (lit< tt)).0 refl;
-  run_right = (claim_of by_run).runs 0 (lit< tt) refl;
-  misses_opened = refl;
-  misses_status = record { stage_is = refl; samples_are = refl; mask_is = refl; misses_are = refl };
-  misses_years = refl;
-  misses_months = refl;
-  misses_near = (claim_of by_misses).misses.0 refl;
-  calm_opened = refl;
-  calm_status = record { stage_is = refl; samples_are = refl; mask_is = refl; misses_are = refl };
-  calm_holds = λ g. true≢false (sym ((claim_of calm).opened.1 g));
-}
