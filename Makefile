@@ -6,12 +6,12 @@ test:
 	@.ci/run
 
 run:
-	@rt check check_sample </dev/null >&2
-	@target/bin/check_sample
+	@cd crates/check_sample && rt run </dev/null >&2
+	@crates/check_sample/out/check_sample
 
 run-residue:
-	@rt check check_residue </dev/null >&2
-	@target/bin/check_residue
+	@cd crates/check_residue && rt run </dev/null >&2
+	@crates/check_residue/out/check_residue
 
 peer:
 	@peer/check

@@ -7,14 +7,14 @@ built=$peer/target/release
 cargo build --release --offline --quiet --manifest-path "$peer/Cargo.toml" >&2
 
 # program NAME VARIABLE VALUE: the program that the variable's value names, with its arguments if
-# it has any; where that is empty, target/bin/NAME, built by `rt check` where the repository has
-# that crate.
+# it has any; where that is empty, crates/NAME/out/NAME, proved and built by `rt run` where the
+# repository has that crate.
 program() {
     named=$3
     if [ -z "$named" ]; then
-        named=$root/target/bin/$1
+        named=$root/crates/$1/out/$1
         if command -v rt >/dev/null && grep -qw "$1" "$root/crates.txt"; then
-            (cd "$root" && rt check "$1") >&2
+            (cd "$root/crates/$1" && rt run </dev/null) >&2
         fi
         if [ ! -x "$named" ]; then
             echo "$0: $named is not built; name a program in $2" >&2

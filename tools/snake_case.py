@@ -2,7 +2,7 @@
 """Brings the repository's own definitions, lemmas, fields and parameters to snake case, as Rattle spells them: `takenOf` and `first-given` become
 `taken_of` and `first_given`. Names of types, modules, Rust items and libraries stay. In pages, names in backticks follow.
 
-usage: tools/snake_case.py [--dry]        at the top of the repository, once, after /opt/rattle/port/port.py
+usage: tools/snake_case.py [--dry]        at the top of the repository, once, after the kit's port.py
 """
 import collections
 import os
