@@ -11,20 +11,13 @@ put_line-requires c =
     let room : c.args.at + ANSWER ≤ length c.args.buffer.now = leb-true _ _ (sym c.has_room.ensures ∙ c.if-has_room.true) in
     rw c.bytes_of-bytes.ensures (omega (arith, answer_length c.args.event))
 
-pub returns-then-has_room-clause-place : goal.returns-then-has_room-clause-place
-returns-then-has_room-clause-place c =
+pub returns-then-has_room : goal.returns-then-has_room
+returns-then-has_room c =
     let yes = put_yes ANSWER c.args.buffer.now c.args.at (answer_text c.args.event) (sym c.has_room.ensures ∙ c.if-has_room.true) in
-    rw c.bytes_of-bytes.ensures at c.put_line.ensures.place ∙ sym yes.0
+    let bytes = c.bytes_of-bytes.ensures in
+    record { place = rw bytes at c.put_line.ensures.place ∙ sym yes.0; text = rw bytes at c.put_line.ensures.text ∙ sym yes.1 }
 
-pub returns-then-has_room-clause-text : goal.returns-then-has_room-clause-text
-returns-then-has_room-clause-text c =
-    let yes = put_yes ANSWER c.args.buffer.now c.args.at (answer_text c.args.event) (sym c.has_room.ensures ∙ c.if-has_room.true) in
-    rw c.bytes_of-bytes.ensures at c.put_line.ensures.text ∙ sym yes.1
-
-pub returns-else-has_room-clause-place : goal.returns-else-has_room-clause-place
-returns-else-has_room-clause-place c =
-    sym (put_no ANSWER c.args.buffer.now c.args.at (answer_text c.args.event) (sym c.has_room.ensures ∙ c.if-has_room.false)).0
-
-pub returns-else-has_room-clause-text : goal.returns-else-has_room-clause-text
-returns-else-has_room-clause-text c =
-    sym (put_no ANSWER c.args.buffer.now c.args.at (answer_text c.args.event) (sym c.has_room.ensures ∙ c.if-has_room.false)).1
+pub returns-else-has_room : goal.returns-else-has_room
+returns-else-has_room c =
+    let no = put_no ANSWER c.args.buffer.now c.args.at (answer_text c.args.event) (sym c.has_room.ensures ∙ c.if-has_room.false) in
+    record { place = sym no.0; text = sym no.1 }

@@ -19,30 +19,17 @@ put_charts-requires c =
     let bytes = c.stage_bytes-bytes.ensures in
     status_room c.args.report c.args.buffer.now _ c.args.at _ room (rw bytes at c.put_line-to.ensures.place) (rw bytes at c.put_line-to.ensures.text)
 
-pub returns-then-has_room-clause-place : goal.returns-then-has_room-clause-place
-returns-then-has_room-clause-place c =
+pub returns-then-has_room : goal.returns-then-has_room
+returns-then-has_room c =
     let fits = sym c.has_room.ensures ∙ c.if-has_room.true in
     let room : c.args.at + STATUS ≤ length c.args.buffer.now = leb-true _ _ fits in
     let yes = put_yes STATUS c.args.buffer.now c.args.at (status_text c.args.report) fits in
     let bytes = c.stage_bytes-bytes.ensures in
     let all = status_put c.args.report c.args.buffer.now _ c.args.at _ room (rw bytes at c.put_line-to.ensures.place) (rw bytes at c.put_line-to.ensures.text)
     _ _ c.put_charts.ensures.place c.put_charts.ensures.text in
-    all.0 ∙ sym yes.0
+    record { place = all.0 ∙ sym yes.0; text = all.1 ∙ sym yes.1 }
 
-pub returns-then-has_room-clause-text : goal.returns-then-has_room-clause-text
-returns-then-has_room-clause-text c =
-    let fits = sym c.has_room.ensures ∙ c.if-has_room.true in
-    let room : c.args.at + STATUS ≤ length c.args.buffer.now = leb-true _ _ fits in
-    let yes = put_yes STATUS c.args.buffer.now c.args.at (status_text c.args.report) fits in
-    let bytes = c.stage_bytes-bytes.ensures in
-    let all = status_put c.args.report c.args.buffer.now _ c.args.at _ room (rw bytes at c.put_line-to.ensures.place) (rw bytes at c.put_line-to.ensures.text)
-    _ _ c.put_charts.ensures.place c.put_charts.ensures.text in
-    all.1 ∙ sym yes.1
-
-pub returns-else-has_room-clause-place : goal.returns-else-has_room-clause-place
-returns-else-has_room-clause-place c =
-    sym (put_no STATUS c.args.buffer.now c.args.at (status_text c.args.report) (sym c.has_room.ensures ∙ c.if-has_room.false)).0
-
-pub returns-else-has_room-clause-text : goal.returns-else-has_room-clause-text
-returns-else-has_room-clause-text c =
-    sym (put_no STATUS c.args.buffer.now c.args.at (status_text c.args.report) (sym c.has_room.ensures ∙ c.if-has_room.false)).1
+pub returns-else-has_room : goal.returns-else-has_room
+returns-else-has_room c =
+    let no = put_no STATUS c.args.buffer.now c.args.at (status_text c.args.report) (sym c.has_room.ensures ∙ c.if-has_room.false) in
+    record { place = sym no.0; text = sym no.1 }
