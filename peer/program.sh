@@ -14,7 +14,7 @@ program() {
     if [ -z "$named" ]; then
         named=$root/crates/$1/out/$1
         if command -v rt >/dev/null && grep -qw "$1" "$root/crates.txt"; then
-            (cd "$root/crates/$1" && rt run </dev/null) >&2
+            (cd "$root/crates/$1" && rt run </dev/null) >&2 || return 2
         fi
         if [ ! -x "$named" ]; then
             echo "$0: $named is not built; name a program in $2" >&2
