@@ -1,7 +1,7 @@
 #![tactic(auto)]
 
 // The misidentification counts of the latest samples. Document 02, request Three.
-ghost use Rattle.std.specs.Prelude.{◌≡◌, ◌≤◌, take};
+ghost use Rattle.std.specs.Prelude.{◌≡◌, ◌≤◌, length};
 ghost use Rattle.grounds.specs.Earlier.{no_counts, latest_of, is_broken};
 ghost use Rattle.grounds.specs.Window.{EIGHT, sum};
 
@@ -26,21 +26,20 @@ pub fn no_counts() -> [u8; EIGHT]
 pub fn latest_of(count: u8, before: [u8; EIGHT]) -> [u8; EIGHT]
     ensures { result ≡ latest_of count before }
 {
-    [
-        count, before[0], before[1], before[2], before[3], before[4], before[5], before[6],
-    ]
+    let mut latest = before;
+    latest.rotate_right(1);
+    latest[0] = count;
+    latest
 }
 
-// The misidentifications in the latest samples, at most so many.
-fn sum_of(latest: [u8; EIGHT], width: usize) -> u16
-    requires { width ≤ EIGHT }
-    ensures { result ≡ sum (take width latest) }
+// The misidentifications in samples.
+fn sum_of(counts: &[u8]) -> u16
+    requires { length counts.now ≤ EIGHT }
+    ensures { result ≡ sum counts.now }
 {
-    let mut sum: u16 = 0;
-    let mut i: usize = 0;
-    while i < width {
-        sum += latest[i] as u16;
-        i += 1;
+    let mut sum = 0;
+    for count in counts {
+        sum += u16::from(*count);
     }
     sum
 }
@@ -49,5 +48,5 @@ fn sum_of(latest: [u8; EIGHT], width: usize) -> u16
 pub fn too_many(latest: [u8; EIGHT]) -> bool
     ensures { result ≡ is_broken latest }
 {
-    (sum_of(latest, TWO) > IN_TWO) | (sum_of(latest, EIGHT) > IN_EIGHT)
+    (sum_of(&latest[..TWO]) > IN_TWO) | (sum_of(&latest[..EIGHT]) > IN_EIGHT)
 }

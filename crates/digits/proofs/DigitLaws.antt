@@ -1,26 +1,14 @@
 -- One digit: which characters are digits, and that a digit and its value are inverse. Assumes nothing.
 use Prim.Native.Nat.{ℕ, ◌+◌, ◌-◌, ◌<◌, ◌≤◌}
 use mathlib.Core.Path.{◌≡◌, ◌∙◌}
-use mathlib.Core.Bool.{true, false, ◌&&◌, and-false}
+use mathlib.Core.Bool.{true, ◌&&◌, and-false}
 use mathlib.Core.Logic.{◌⊎◌, inl, inr, ⊎_elim}
 use native.Mathlib.Omega.{arith}
 use borrow.Author.Tests.{lt-ltb, le-ltb, le-leb, lt-leb, leb-true, ltb-true, ltb-false}
 use lib.Dec.{leb, ltb}
 use Rattle.laws.proofs.Bools.{and_both, or_either, either}
-use Rattle.digits.specs.Digits.{ZERO, NINE, LETTER_A, LETTER_F, is_digit, byte_of, byte_in, digit_value, digit_of}
+use Rattle.digits.specs.Digits.{ZERO, NINE, LETTER_A, LETTER_F, is_digit, digit_value, digit_of}
 use Rattle.digits.specs.Numbers.{BYTE}
-use Rattle.digits.specs.declared.digit.Hex.TheVariants.{Value, Bad}
-
--- ---- two characters
-
-module _ (high low : ℕ) where
-  pub both_good : is_digit high ≡ true → is_digit low ≡ true → byte_in high low ≡ Value (byte_of (digit_value high) (digit_value low))
-  unfolding byte_in
-  both_good h l = simp (h, l)
-
-  pub not_both : (is_digit high && is_digit low) ≡ false → byte_in high low ≡ Bad
-  unfolding byte_in
-  not_both h = simp h
 
 -- ---- a digit and its value are inverse
 

@@ -1,114 +1,117 @@
--- What the loops over digits and bytes leave, turn by turn. Assumes nothing.
+-- Digits and bytes of lists in parts, and what the loops over them leave, turn by turn. Assumes nothing.
 use Prim.Native.Nat.{ℕ, zero, suc, ◌+◌, ◌-◌, ◌*◌, ◌<◌, ◌≤◌}
 use mathlib.Core.Path.{◌≡◌, refl, sym, ap, ap₂, ◌∙◌}
-use mathlib.Core.Bool.{true, ◌&&◌, and-true, and_assoc}
-use mathlib.Core.List.{List, [], ◌∷◌, ◌++◌, append_assoc}
-use mathlib.Core.Logic.{⊎_elim}
-use native.Mathlib.Nat.{add-zero}
+use mathlib.Core.Bool.{Bool, true, ◌&&◌, and-true, and_assoc}
+use mathlib.Core.List.{List, [], ◌∷◌, ◌++◌, append-nil, append_assoc}
+use native.Mathlib.Nat.{zero-mul}
 use native.Mathlib.Numerals.{add-one}
 use native.Mathlib.Omega.{arith}
-use lib.Dec.{lit<, ltb}
-use lib.ListN.{length, get_or, set, take, drop, length-set, length-append, take-append-drop, get_or-append}
-use lib.Seq.{take-suc, take-add, drop-cons, append_snoc, set_at, length-take-le, ext_get_or, get_or-take, get_or-append-add, get_or-set_same, get_or-set_other}
-use borrow.Author.Count.{below_more}
-use borrow.Author.Tests.{ltb-true, ltb-false}
-use Rattle.laws.proofs.Bools.{and_both, either}
+use lib.ListN.{length, get_or, set, take, drop, length-append, length-drop, take-append-drop}
+use lib.Seq.{take-suc, take-append_seam, drop-cons, drop-append_seam, append_snoc, set_at, length-take-le}
+use Rattle.std.proofs.Common.{drop-drop}
+use borrow.Rule.Slice.PartMut.{put_mid}
+use Rattle.std.specs.Simd.{first_chunks}
+use Rattle.laws.proofs.Bools.{and_both}
 use Rattle.laws.proofs.Gathered.{joined}
-use Rattle.digits.specs.Digits.{is_digit, digit_value, byte_of, high_digit, low_digit, are_digits, bytes_of, digits_of}
-use Rattle.digits.specs.bounds.Part.{pair_at, ReadTo}
+use Rattle.digits.specs.Digits.{is_digit, high_digit, low_digit, are_digits, bytes_of, digits_of}
+use Rattle.digits.specs.Word.{CHARACTERS, WRITTEN}
+use Rattle.digits.specs.bounds.Words.{all_digits, all_bytes}
 use Rattle.digits.proofs.ByteLaws.{length_bytes_of, length_digits_of, digits_of_append}
 
--- ---- characters looked at in turn
+-- ---- two parts of characters
 
--- of two parts of them
 pub parts : (xs ys : List ℕ) → are_digits (xs ++ ys) ≡ (are_digits xs && are_digits ys)
 unfolding are_digits
 parts = joined ◌&&◌ true (λ b. refl) and-true and_assoc is_digit are_digits refl (λ c l. refl)
 
--- the first k and the n after them
-pub part_more : (l : List ℕ) (k n : ℕ) → (are_digits (take k l) && are_digits (take n (drop k l))) ≡ are_digits (take (k + n) l)
-part_more l k n = sym (ap are_digits (take-add k n l) ∙ parts (take k l) (take n (drop k l)))
-
--- the first k and the rest
-part_rest : (l : List ℕ) (k : ℕ) → (are_digits (take k l) && are_digits (drop k l)) ≡ are_digits l
-part_rest l k = sym (ap are_digits (sym (take-append-drop k l)) ∙ parts (take k l) (drop k l))
-
--- of digits, n after the first k
-pub part_digits : (l : List ℕ) (k n : ℕ) → are_digits l ≡ true → are_digits (take n (drop k l)) ≡ true
-part_digits l k n d =
-    let first = (and_both (are_digits (take (k + n) l)) (are_digits (drop (k + n) l)) (part_rest l (k + n) ∙ d)).0 in
-    (and_both (are_digits (take k l)) (are_digits (take n (drop k l))) (part_more l k n ∙ first)).1
-
--- ---- the byte that digits 2 k and 2 k + 1 write
-
-pair_tail : (c d : ℕ) (l : List ℕ) (k : ℕ) → pair_at (c ∷ d ∷ l) (suc k) ≡ pair_at l k
-pair_tail c d l k =
-    let e : 2 * suc k ≡ suc (suc (2 * k)) = omega arith in
-    let g : 2 * suc k + 1 ≡ suc (suc (2 * k + 1)) = omega arith in
-    rw (g, e)
-
-bytes_of_at : (l : List ℕ) (k : ℕ) → 2 * k + 1 < length l → get_or (bytes_of l) k 0 ≡ pair_at l k
+pub bytes_of_append : (n : ℕ) (xs ys : List ℕ) → length xs ≡ 2 * n → bytes_of (xs ++ ys) ≡ bytes_of xs ++ bytes_of ys
 unfolding bytes_of
-bytes_of_at [] k p = absurd (omega arith)
-bytes_of_at (c ∷ []) k p = absurd (omega arith)
-bytes_of_at (c ∷ d ∷ l) zero p = refl
-bytes_of_at (c ∷ d ∷ l) (suc k) p = bytes_of_at l k (omega arith) ∙ sym (pair_tail c d l k)
+bytes_of_append n [] ys e = refl
+bytes_of_append n (c ∷ []) ys e = absurd (omega arith)
+bytes_of_append zero (c ∷ d ∷ xs) ys e = absurd (omega arith)
+bytes_of_append (suc n) (c ∷ d ∷ xs) ys e = ap (λ (bs : List ℕ). get_or (bytes_of (c ∷ d ∷ [])) 0 0 ∷ bs) (bytes_of_append n xs ys (omega arith))
 
-pub bytes_are : (l bytes : List ℕ) (n : ℕ) → length l ≡ 2 * n → length bytes ≡ n → ReadTo l n bytes → bytes ≡ bytes_of l
-bytes_are l bytes n e m h =
-    ext_get_or 0 bytes (bytes_of l) (m ∙ sym (length_bytes_of l n e)) (λ k p. h k (omega arith) ∙ sym (bytes_of_at l k (omega arith)))
+-- ---- the words at the front of characters, and the rest
 
--- the bytes that digits write, where the first 2 n of them are those at a place of a list
-pub part_bytes : (l cs : List ℕ) (at n : ℕ) → 2 * n ≤ length cs → ((i : ℕ) → i < 2 * n → get_or cs i 0 ≡ get_or l (2 * at + i) 0)
-    → (j : ℕ) → j < n → get_or (bytes_of cs) j 0 ≡ pair_at l (at + j)
-part_bytes l cs at n h there j p =
-    let first : 2 * at + 2 * j ≡ 2 * (at + j) = omega arith in
-    let second : 2 * at + (2 * j + 1) ≡ 2 * (at + j) + 1 = omega arith in
-    bytes_of_at cs j (omega arith)
-    ∙ ap₂ (λ (x y : ℕ). byte_of (digit_value x) (digit_value y)) (there (2 * j) (omega arith) ∙ ap (λ (i : ℕ). get_or l i 0) first)
-    (there (2 * j + 1) (omega arith) ∙ ap (λ (i : ℕ). get_or l i 0) second)
+next : (k : ℕ) (l : List ℕ) → drop (k * CHARACTERS) (drop CHARACTERS l) ≡ drop (suc k * CHARACTERS) l
+next k l = let e : CHARACTERS + k * CHARACTERS ≡ suc k * CHARACTERS = omega arith in drop-drop (k * CHARACTERS) CHARACTERS l ∙ ap (λ (n : ℕ). drop n l) e
 
--- ---- a loop that puts one entry after the other, each by the rule f
+pub chunks_digits : (k : ℕ) (l : List ℕ) → (all_digits (first_chunks CHARACTERS k l) && are_digits (drop (k * CHARACTERS) l)) ≡ are_digits l
+chunks_digits zero l = ap (λ (n : ℕ). are_digits (drop n l)) (zero-mul CHARACTERS)
+chunks_digits (suc k) l =
+    let word = take CHARACTERS l in
+    let rest = drop CHARACTERS l in
+    ap (λ (r : List ℕ). (are_digits word && all_digits (first_chunks CHARACTERS k rest)) && are_digits r) (sym (next k l))
+    ∙ and_assoc (are_digits word) (all_digits (first_chunks CHARACTERS k rest)) (are_digits (drop (k * CHARACTERS) rest))
+    ∙ ap (λ (b : Bool). are_digits word && b) (chunks_digits k rest)
+    ∙ sym (parts word rest)
+    ∙ ap are_digits (take-append-drop CHARACTERS l)
 
-pub entry_more : (f : ℕ → ℕ) (xs : List ℕ) (i x : ℕ) → i < length xs → ((k : ℕ) → k < i → get_or xs k 0 ≡ f k) → x ≡ f i
-    → (k : ℕ) → k < i + 1 → get_or (set xs i x) k 0 ≡ f k
-entry_more f xs i x p h e =
-    below_more (λ (k : ℕ). get_or (set xs i x) k 0 ≡ f k) i
-    (λ k q. get_or-set_other xs i k x 0 (λ (s : k ≡ i). omega arith) ∙ h k q)
-    (get_or-set_same xs i x 0 p ∙ e)
+pub chunks_bytes : (k : ℕ) (l : List ℕ) → k * CHARACTERS ≤ length l → all_bytes (first_chunks CHARACTERS k l) ++ bytes_of (drop (k * CHARACTERS) l) ≡ bytes_of l
+chunks_bytes zero l h = ap (λ (n : ℕ). bytes_of (drop n l)) (zero-mul CHARACTERS)
+chunks_bytes (suc k) l h =
+    let word = take CHARACTERS l in
+    let rest = drop CHARACTERS l in
+    ap (λ (r : List ℕ). (bytes_of word ++ all_bytes (first_chunks CHARACTERS k rest)) ++ bytes_of r) (sym (next k l))
+    ∙ append_assoc (bytes_of word) (all_bytes (first_chunks CHARACTERS k rest)) (bytes_of (drop (k * CHARACTERS) rest))
+    ∙ ap (λ (bs : List ℕ). bytes_of word ++ bs) (chunks_bytes k rest (omega (arith, length-drop CHARACTERS l)))
+    ∙ sym (bytes_of_append WRITTEN word rest (length-take-le CHARACTERS l (omega arith)))
+    ∙ ap bytes_of (take-append-drop CHARACTERS l)
 
--- four at once
-pub four_more : (f : ℕ → ℕ) (xs four : List ℕ) (i : ℕ) → i + 4 ≤ length xs → ((k : ℕ) → k < i → get_or xs k 0 ≡ f k) → ((j : ℕ) → j < 4 → get_or four j 0 ≡ f (i + j))
-    → (k : ℕ) → k < i + 4 → get_or (set (set (set (set xs i (get_or four 0 0)) (i + 1) (get_or four 1 0)) (i + 2) (get_or four 2 0)) (i + 3) (get_or four 3 0)) k 0 ≡ f k
-four_more f xs four i p h e =
-    let one = set xs i (get_or four 0 0) in
-    let two = set one (i + 1) (get_or four 1 0) in
-    let three = set two (i + 2) (get_or four 2 0) in
-    let h₁ = entry_more f xs i (get_or four 0 0) (omega arith) h (e 0 (lit< tt) ∙ ap f (add-zero i)) in
-    let h₂ = entry_more f one (i + 1) (get_or four 1 0) (simp length-set (omega arith)) h₁ (e 1 (lit< tt)) in
-    let h₃ = entry_more f two (i + 2) (get_or four 2 0) (simp length-set (omega arith)) (λ k q. h₂ k (omega arith)) (e 2 (lit< tt)) in
-    λ k q. entry_more f three (i + 3) (get_or four 3 0) (simp length-set (omega arith)) (λ k r. h₃ k (omega arith)) (e 3 (lit< tt)) k (omega arith)
+-- ---- words looked at in turn
 
--- ---- entries up to a place, and others from there on
+pub digits_more : (words : List (List ℕ)) (k : ℕ) (good b : Bool) → k < length words → b ≡ are_digits (get_or words k [])
+    → (good && all_digits (drop k words)) ≡ all_digits words → ((good && b) && all_digits (drop (k + 1) words)) ≡ all_digits words
+digits_more words k good b p e h =
+    and_assoc good b (all_digits (drop (k + 1) words))
+    ∙ ap₂ (λ (t : Bool) (i : ℕ). good && (t && all_digits (drop i words))) e (add-one k)
+    ∙ ap (λ (ws : List (List ℕ)). good && all_digits ws) (sym (drop-cons words k [] p))
+    ∙ h
 
-module _ (xs rest : List ℕ) (from : ℕ) (p : from ≤ length xs) where
-  pub seam_before : (k : ℕ) → k < from → get_or (take from xs ++ rest) k 0 ≡ get_or xs k 0
-  seam_before k q = get_or-append (take from xs) rest 0 k (omega (arith, length-take-le from xs p)) ∙ get_or-take from xs k 0 q
+pub digits_at : (words : List (List ℕ)) (k : ℕ) → k < length words → all_digits words ≡ true → are_digits (get_or words k []) ≡ true
+digits_at [] k p d = absurd (omega arith)
+digits_at (w ∷ ws) zero p d = (and_both (are_digits w) (all_digits ws) d).0
+digits_at (w ∷ ws) (suc k) p d = digits_at ws k (omega arith) (and_both (are_digits w) (all_digits ws) d).1
 
-  pub seam_after : (k : ℕ) → from ≤ k → get_or (take from xs ++ rest) k 0 ≡ get_or rest (k - from) 0
-  seam_after k q =
-      let there : k ≡ length (take from xs) + (k - from) = omega (arith, length-take-le from xs p) in
-      ap (λ (i : ℕ). get_or (take from xs ++ rest) i 0) there ∙ get_or-append-add (take from xs) rest (k - from) 0
+-- ---- the loop that puts the bytes of words in turn: those of the first k stand before what the slice held
 
-  pub rest_more : (f : ℕ → ℕ) → ((k : ℕ) → k < from → get_or xs k 0 ≡ f k) → ((j : ℕ) → from + j < length xs → get_or rest j 0 ≡ f (from + j))
-      → (k : ℕ) → k < length xs → get_or (take from xs ++ rest) k 0 ≡ f k
-  rest_more f h e k q =
-      ⊎_elim (λ t. let b = ltb-true k from t in seam_before k b ∙ h k b)
-      (λ t.
-      let b = ltb-false k from t in
-      let there : from + (k - from) ≡ k = omega arith in
-      seam_after k b ∙ e (k - from) (omega arith) ∙ ap f there)
-      (either (ltb k from))
+abbrev pub put_to : List (List ℕ) → List ℕ → ℕ → List ℕ
+put_to words bytes k = all_bytes (take k words) ++ drop (WRITTEN * k) bytes
+
+-- each is of eight characters
+abbrev pub AreWords : List (List ℕ) → Type 0
+AreWords words = (i : ℕ) → i < length words → length (get_or words i []) ≡ CHARACTERS
+
+length_front : (k : ℕ) (words : List (List ℕ)) → k ≤ length words → AreWords words → length (all_bytes (take k words)) ≡ WRITTEN * k
+length_front zero words p w = omega arith
+length_front (suc k) [] p w = absurd (omega arith)
+length_front (suc k) (word ∷ words) p w =
+    length-append (bytes_of word) (all_bytes (take k words))
+    ∙ omega (arith, length_bytes_of word WRITTEN (w 0 (omega arith)), length_front k words (omega arith) (λ i q. w (suc i) (omega arith)))
+
+one_more : (words : List (List ℕ)) (word : List ℕ) → all_bytes (words ++ word ∷ []) ≡ all_bytes words ++ bytes_of word
+one_more [] word = append-nil (bytes_of word)
+one_more (w ∷ words) word = ap (λ (bs : List ℕ). bytes_of w ++ bs) (one_more words word) ∙ sym (append_assoc (bytes_of w) (all_bytes words) (bytes_of word))
+
+-- a part put where the front ends
+pub put_after : (front rest part : List ℕ) (n m : ℕ) → length front ≡ n → put_mid n m (front ++ rest) part ≡ front ++ part ++ drop m rest
+put_after front rest part n m e =
+    ap (λ (i : ℕ). put_mid i m (front ++ rest) part) (sym e)
+    ∙ ap₂ (λ (xs ys : List ℕ). xs ++ (part ++ drop m ys)) (take-append_seam front rest) (drop-append_seam front rest)
+    ∙ sym (append_assoc front part (drop m rest))
+
+pub put_more : (words : List (List ℕ)) (bytes four : List ℕ) (k : ℕ) → k < length words → AreWords words → four ≡ bytes_of (get_or words k [])
+    → put_mid (WRITTEN * k) (WRITTEN * k + WRITTEN - WRITTEN * k) (put_to words bytes k) four ≡ put_to words bytes (k + 1)
+put_more words bytes four k p w e =
+    let front = all_bytes (take k words) in
+    let m = WRITTEN * k + WRITTEN - WRITTEN * k in
+    let past : WRITTEN * k + m ≡ WRITTEN * (k + 1) = omega arith in
+    let more : front ++ four ≡ all_bytes (take (k + 1) words) =
+    ap (λ (bs : List ℕ). front ++ bs) e
+    ∙ sym (one_more (take k words) (get_or words k []))
+    ∙ ap all_bytes (sym (take-suc words k [] p) ∙ ap (λ (i : ℕ). take i words) (sym (add-one k))) in
+    put_after front (drop (WRITTEN * k) bytes) four (WRITTEN * k) m (length_front k words (omega arith) w)
+    ∙ ap₂ ◌++◌ more (drop-drop m (WRITTEN * k) bytes ∙ ap (λ (i : ℕ). drop i bytes) past)
 
 -- ---- the loop that writes the digits in turn: the first i bytes' digits stand before what the buffer held
 

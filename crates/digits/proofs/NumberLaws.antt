@@ -9,9 +9,14 @@ use lib.ListN.{length, get_or}
 use Rattle.digits.specs.Inverse.{NumberBack, NumberBytesBack}
 use Rattle.digits.specs.Numbers.{BYTE, AreBytes, number_of, number_bytes}
 
-positive : (k : ℕ) → 0 < BYTE ^ k
+pub positive : (k : ℕ) → 0 < BYTE ^ k
 positive zero = lit< tt
 positive (suc k) = rw (pow-suc BYTE k) (omega (arith, positive k))
+
+-- a number of a high part b and a low part m, below p
+pub high_low : (b m p : ℕ) → 0 < p → m < p → ((b * p + m) / p ≡ b) × ((b * p + m) % p ≡ m)
+high_low b m p P l =
+    (mul-add-div_right P b m ∙ ap (λ (k : ℕ). b + k) (div-eq_of_lt l) ∙ add-zero b, mul-add-mod_self_right b p m ∙ mod-eq_of_lt l)
 
 -- ---- the bytes of a number make it
 
@@ -42,12 +47,8 @@ bytes_back [] A = refl
 bytes_back (b ∷ []) A = ap (λ (n : ℕ). n ∷ []) (omega arith)
 bytes_back (b ∷ c ∷ bs) A =
     let rest = c ∷ bs in
-    let p = BYTE ^ length rest in
-    let m = number_of rest in
-    let small = number_lt rest A.1 in
-    let high : (b * p + m) / p ≡ b = mul-add-div_right (positive (length rest)) b m ∙ ap (λ (k : ℕ). b + k) (div-eq_of_lt small) ∙ add-zero b in
-    let low : (b * p + m) % p ≡ m = mul-add-mod_self_right b p m ∙ mod-eq_of_lt small in
-    ap₂ (λ (x y : ℕ). x ∷ number_bytes (length rest) y) high low ∙ ap (λ (l : List ℕ). b ∷ l) (bytes_back (c ∷ bs) A.1)
+    let both = high_low b (number_of rest) (BYTE ^ length rest) (positive (length rest)) (number_lt rest A.1) in
+    ap₂ (λ (x y : ℕ). x ∷ number_bytes (length rest) y) both.0 both.1 ∙ ap (λ (l : List ℕ). b ∷ l) (bytes_back (c ∷ bs) A.1)
 
 -- as many bytes as a length says
 pub bytes_back_at : (n : ℕ) (bs : List ℕ) → length bs ≡ n → AreBytes bs → number_bytes n (number_of bs) ≡ bs
@@ -68,11 +69,3 @@ pub byte_at : (bs : List ℕ) → AreBytes bs → (i : ℕ) → get_or bs i 0 < 
 byte_at [] A i = lit< tt
 byte_at (b ∷ bs) A zero = A.0
 byte_at (b ∷ bs) A (suc i) = byte_at bs A.1 i
-
--- the bytes of four, each from the whole number
-pub four_bytes : (n : ℕ) → n / 16777216 ∷ n / 65536 % BYTE ∷ n / BYTE % BYTE ∷ n % BYTE ∷ [] ≡ number_bytes 4 n
-four_bytes n =
-    let second : n / 65536 % 256 ≡ n % 16777216 / 65536 = omega arith in
-    let third : n / 256 % 256 ≡ n % 16777216 % 65536 / 256 = omega arith in
-    let fourth : n % 256 ≡ n % 16777216 % 65536 % 256 = omega arith in
-    rw (second, third, fourth)

@@ -24,7 +24,7 @@ module _ (h : ℕ) where
   unfolding signed_by
   signed_low n l = simp (lt-ltb n h l)
 
-  signed_high : (n : ℕ) → h ≤ n → signed_by h n ≡ pos n -ℤ pos (2 * h)
+  pub signed_high : (n : ℕ) → h ≤ n → signed_by h n ≡ pos n -ℤ pos (2 * h)
   unfolding signed_by
   signed_high n l = simp (le-ltb n h l)
 

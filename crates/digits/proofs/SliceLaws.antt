@@ -1,45 +1,22 @@
 -- What is answered of digits and bytes, and what the lent slice then holds, case by case. Assumes nothing.
-use Prim.Native.Nat.{ℕ, ◌*◌, ◌/◌, ◌%◌, ◌<◌, ◌≤◌}
+use Prim.Native.Nat.{ℕ, ◌*◌, ◌<◌, ◌≤◌}
 use mathlib.Core.Path.{◌≡◌, sym, ap, ◌∙◌}
-use mathlib.Core.Bool.{Bool, true, false, cond, not, ◌||◌}
+use mathlib.Core.Bool.{Bool, true, false, cond}
 use mathlib.Core.List.{List, ◌++◌}
-use mathlib.Core.Logic.{⊎_elim}
 use native.Mathlib.Omega.{arith}
-use borrow.Author.Tests.{le-leb, lt-leb, eq-eqb, ne_eqb, eqb-true, eqb-false, not-true, not-false}
-use lib.Dec.{eqb}
+use borrow.Author.Tests.{le-leb, lt-leb, eq-eqb}
 use lib.ListN.{length, drop}
 use lib.Seq.{take_all}
-use Rattle.laws.proofs.Bools.{or_either, or_neither}
 use Rattle.digits.specs.Digits.{are_digits, bytes_of, digits_of}
 use Rattle.digits.specs.Slices.{readable, bytes_after, has_room, digits_after}
 use Rattle.digits.proofs.LoopLaws.{written_to}
 
 -- ---- reading
 
--- the code's test of the lengths
-abbrev odd : ℕ → ℕ → Bool
-odd n m = not (eqb (n % 2) 0) || not (eqb (n / 2) m)
-
-pub not_twice : (n m : ℕ) → odd n m ≡ true → n ≡ 2 * m → ⊥
-not_twice n m h e =
-    ⊎_elim (λ p. eqb-false (n % 2) 0 (not-true (eqb (n % 2) 0) p) (omega arith)) (λ p. eqb-false (n / 2) m (not-true (eqb (n / 2) m) p) (omega arith))
-    (or_either (not (eqb (n % 2) 0)) (not (eqb (n / 2) m)) h)
-
-pub twice : (n m : ℕ) → odd n m ≡ false → n ≡ 2 * m
-twice n m h =
-    let p = or_neither (not (eqb (n % 2) 0)) (not (eqb (n / 2) m)) h in
-    let q = eqb-true (n % 2) 0 (not-false (eqb (n % 2) 0) p.0) in
-    let r = eqb-true (n / 2) m (not-false (eqb (n / 2) m) p.1) in
-    omega arith
-
 module _ (digits bytes : List ℕ) where
   by_readable : (b : Bool) → readable digits bytes ≡ b → (b ≡ readable digits bytes) × (cond b (bytes_of digits) bytes ≡ bytes_after digits bytes)
   unfolding bytes_after
   by_readable b e = (sym e, ap (λ (r : Bool). cond r (bytes_of digits) bytes) (sym e))
-
-  pub wrong_length : odd (length digits) (length bytes) ≡ true → (false ≡ readable digits bytes) × (bytes ≡ bytes_after digits bytes)
-  unfolding readable
-  wrong_length h = by_readable false (rw (ne_eqb (length digits) (2 * length bytes) (not_twice (length digits) (length bytes) h)))
 
   pub no_digits : length digits ≡ 2 * length bytes → are_digits digits ≡ false → (false ≡ readable digits bytes) × (bytes ≡ bytes_after digits bytes)
   unfolding readable

@@ -1,7 +1,5 @@
 -- Document 01, "The line": lowercase hexadecimal digits, two to a byte, the high one first. A digit is given by its character's number.
-use Rattle.std.specs.Prelude.{ℕ, ◌+◌, ◌-◌, ◌*◌, ◌/◌, ◌%◌, Bool, true, cond, ◌&&◌, ◌||◌, List, [], ◌∷◌, leb, ltb}
-use Rattle.digits.specs.declared.digit.Hex.{Hex}
-use Rattle.digits.specs.declared.digit.Hex.TheVariants.{Value, Bad}
+use Rattle.std.specs.Prelude.{ℕ, ◌+◌, ◌-◌, ◌*◌, ◌/◌, ◌%◌, Bool, true, cond, ◌&&◌, ◌||◌, List, [], ◌∷◌, leb, ltb, Option, Some, None}
 
 -- the characters 0, 9, a and f, by their numbers
 abbrev pub ZERO : ℕ
@@ -28,10 +26,10 @@ digit_value c = cond (leb c NINE) (c - ZERO) (c - LETTER_A + 10)
 abbrev pub byte_of : ℕ → ℕ → ℕ
 byte_of high low = 16 * high + low
 
--- what two characters are: the byte that they write, or no two digits
-unfoldable pub byte_in : ℕ → ℕ → Hex
+-- the byte that two characters write, if they are digits
+unfoldable pub byte_in : ℕ → ℕ → Option ℕ
 unfolding is_digit digit_value
-byte_in high low = cond (is_digit high && is_digit low) (Value (byte_of (digit_value high) (digit_value low))) Bad
+byte_in high low = cond (is_digit high && is_digit low) (Some (byte_of (digit_value high) (digit_value low))) None
 
 -- the digit that stands for a number below 16
 unfoldable pub digit_of : ℕ → ℕ

@@ -4,6 +4,7 @@ pub mod Slices
 pub mod Numbers
 pub mod Signed
 pub mod Word
+pub mod Library
 pub mod Inverse
 pub mod Examples
 pub mod bounds

@@ -3,13 +3,7 @@
 ghost use Rattle.std.specs.Prelude.{◌≡◌, true, ◌<◌};
 ghost use Rattle.digits.specs.Digits.{is_digit, digit_value, byte_of, byte_in, digit_of, high_digit, low_digit};
 
-// What two characters are: the byte that they write, or no two digits.
-#[derive(Clone, Copy)]
-pub enum Hex {
-    Value(u8),
-    Bad,
-}
-
+#[tactic(auto, unfolding(crate::specs::Digits::is_digit))]
 fn is_digit(c: u8) -> bool
     ensures { result ≡ is_digit c }
 {
@@ -17,6 +11,7 @@ fn is_digit(c: u8) -> bool
 }
 
 // What a digit stands for.
+#[tactic(auto, unfolding(crate::specs::Digits::is_digit, crate::specs::Digits::digit_value))]
 fn value_of(c: u8) -> u8
     requires { is_digit c ≡ true }
     ensures { result ≡ digit_value c }
@@ -25,6 +20,7 @@ fn value_of(c: u8) -> u8
 }
 
 // The byte that two digits write.
+#[tactic(auto, using(crate::proofs::DigitLaws::value_lt))]
 fn byte_of(high: u8, low: u8) -> u8
     requires { (is_digit high ≡ true) × (is_digit low ≡ true) }
     ensures { result ≡ byte_of (digit_value high) (digit_value low) }
@@ -32,15 +28,19 @@ fn byte_of(high: u8, low: u8) -> u8
     16 * value_of(high) + value_of(low)
 }
 
-pub fn byte_in(high: u8, low: u8) -> Hex
+// The byte that two characters write, if they are digits.
+#[tactic(auto, unfolding(crate::specs::Digits::byte_in))]
+pub fn byte_in(high: u8, low: u8) -> Option<u8>
     ensures { result ≡ byte_in high low }
 {
     if is_digit(high) & is_digit(low) {
-        return Hex::Value(byte_of(high, low));
+        Some(byte_of(high, low))
+    } else {
+        None
     }
-    Hex::Bad
 }
 
+#[tactic(auto, unfolding(crate::specs::Digits::digit_of))]
 fn digit_of(n: u8) -> u8
     requires { n < 16 }
     ensures { result ≡ digit_of n }
@@ -48,7 +48,7 @@ fn digit_of(n: u8) -> u8
     if n < 10 { b'0' + n } else { b'a' + (n - 10) }
 }
 
-// The digits of a byte.
+// The digits of a byte: by name, as the document has them.
 pub fn high_digit(b: u8) -> u8
     ensures { result ≡ high_digit b }
 {

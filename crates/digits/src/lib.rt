@@ -7,13 +7,11 @@ mod digit;
 mod load;
 mod number;
 mod read;
-mod signed;
 mod word;
 mod write;
 
-pub use digit::{Hex, byte_in, high_digit, low_digit};
-pub use number::{byte_at, bytes2, bytes4, eight, four, four_at, two, two_at};
+pub use digit::{byte_in, high_digit, low_digit};
+pub use number::{Number, eight, four, two};
 pub use read::read_digits;
-pub use signed::{signed_bytes2, signed_bytes4, signed2_at, signed4_at};
-pub use word::{WordBytes, read_word};
+pub use word::read_word;
 pub use write::write_digits;

@@ -3,31 +3,27 @@
 // for the bytes `values` and `four_by`. They are called apart, for a refusal changes no byte, so all is
 // tested before the first is put; and on words as they are loaded, so the values are turned between.
 
-ghost use Rattle.std.specs.Prelude.{◌≡◌, true, ◌++◌, ◌+◌, ◌*◌, ◌≤◌, length, take};
+ghost use Rattle.std.specs.Prelude.{◌≡◌, true, ◌++◌, ◌+◌, ◌*◌, ◌-◌, ◌≤◌, length, take, drop};
 ghost use Rattle.digits.specs.Digits.{are_digits, bytes_of};
 ghost use Rattle.digits.specs.Slices.{readable, bytes_after};
-ghost use Rattle.digits.specs.Word.{CHARACTERS, WRITTEN};
+ghost use Rattle.digits.specs.Word.{WRITTEN};
 ghost use Rattle.digits.specs.bounds.Loaded.{loaded_in};
-ghost use Rattle.digits.specs.bounds.Part.{ReadTo, SameTo};
+ghost use Rattle.digits.specs.bounds.Words.{all_digits, all_bytes};
 
-use crate::load::{CHARACTERS, tail_word, turned, word_at};
-use crate::number::bytes4;
+use crate::load::{CHARACTERS, tail_word, word_of};
 use crate::word::{are_eight, four_by, values};
 
 // How many bytes the characters of a word write.
 const WRITTEN: usize = CHARACTERS / 2;
 
-// Whether the characters of so many words are digits. No turn ends the loop, so that the compiler
-// takes words together.
-fn are_words(digits: &[u8], words: usize) -> bool
-    requires { CHARACTERS * words ≤ length digits.now }
-    ensures { result ≡ are_digits (take (CHARACTERS * words) digits.now) }
+// Whether the characters of words are digits. No word ends the loop, so that the compiler takes words
+// together.
+fn are_words(words: &[[u8; CHARACTERS]]) -> bool
+    ensures { result ≡ all_digits words.now }
 {
     let mut good = true;
-    let mut k = 0;
-    while k < words {
-        good = good & are_eight(word_at(digits, CHARACTERS * k));
-        k += 1;
+    for word in words {
+        good &= are_eight(word_of(word));
     }
     good
 }
@@ -38,55 +34,41 @@ fn loaded_bytes(word: u64) -> [u8; WRITTEN]
     requires { are_digits (loaded_in word) ≡ true }
     ensures { result ≡ bytes_of (loaded_in word) }
 {
-    bytes4(four_by(turned(values(word))))
+    four_by(values(word).swap_bytes()).to_be_bytes()
 }
 
-// Puts the bytes of so many words.
-fn put_words(digits: &[u8], bytes: &mut [u8], words: usize)
-    requires { (WRITTEN * words ≤ length bytes.old) × (length digits.now ≡ 2 * length bytes.old) × (are_digits digits.now ≡ true) }
-    ensures { ReadTo digits.now (WRITTEN * words) bytes.new }
+// Puts the bytes of words at the start.
+fn put_words(words: &[[u8; CHARACTERS]], bytes: &mut [u8])
+    requires { (WRITTEN * length words.now ≤ length bytes.old) × (all_digits words.now ≡ true) }
+    ensures { bytes.new ≡ all_bytes words.now ++ drop (WRITTEN * length words.now) bytes.old }
 {
-    let mut k = 0;
-    while k < words {
+    // By index. A zip over the fours that `as_chunks_mut` lends was tried: the goal at the end has for the
+    // bytes a list, `given`, of which nothing is known.
+    for (k, word) in words.iter().enumerate() {
         let at = WRITTEN * k;
-        let four = loaded_bytes(word_at(digits, 2 * at));
-        bytes[at] = four[0];
-        bytes[at + 1] = four[1];
-        bytes[at + 2] = four[2];
-        bytes[at + 3] = four[3];
-        k += 1;
+        bytes[at..at + WRITTEN].copy_from_slice(&loaded_bytes(word_of(word)));
     }
 }
 
-// Puts four bytes from a place on, as far as there is room: for the tail.
-fn put_rest(four: [u8; WRITTEN], bytes: &mut [u8], from: usize)
-    requires { (from ≤ length bytes.old) × (length bytes.old ≤ from + WRITTEN) }
-    ensures { SameTo (length bytes.old) (take from bytes.old ++ four) bytes.new }
-{
-    let mut i = from;
-    while i < bytes.len() {
-        bytes[i] = four[i - from];
-        i += 1;
-    }
-}
-
-// Reads digits into lent bytes: all are digits, and just two for each byte; or else no byte changes.
-// The tail's end goes by the bytes, of which a caller's array tells the compiler how many there are.
+// Reads digits into lent bytes: all are digits, and just two for each byte; or else no byte changes. A
+// yes or a no, since the bytes are lent: an `Option<()>` says no more.
+#[tactic(auto, unfolding(crate::specs::Slices::readable, crate::specs::Slices::bytes_after))]
+#[inline(always)]
 pub fn read_digits(digits: &[u8], bytes: &mut [u8]) -> bool
     ensures answer { result ≡ readable digits.now bytes.old }
     ensures bytes { bytes.new ≡ bytes_after digits.now bytes.old }
 {
-    if (digits.len() % 2 != 0) | (digits.len() / 2 != bytes.len()) {
+    if digits.len() != 2 * bytes.len() {
         return false;
     }
-    let words = bytes.len() / WRITTEN;
-    let place = CHARACTERS * words;
-    let end = 2 * bytes.len();
-    let tail = tail_word(&digits[place..end]);
-    if !(are_words(digits, words) & are_eight(tail)) {
+    let (words, rest) = digits.as_chunks();
+    let tail = tail_word(rest);
+    if !(are_words(words) & are_eight(tail)) {
         return false;
     }
-    put_words(digits, bytes, words);
-    put_rest(loaded_bytes(tail), bytes, WRITTEN * words);
+    let from = WRITTEN * words.len();
+    put_words(words, bytes);
+    let n = bytes.len() - from;
+    bytes[from..].copy_from_slice(&loaded_bytes(tail)[..n]);
     true
 }

@@ -7,22 +7,14 @@ ghost use Rattle.digits.specs.Digits.{are_digits};
 ghost use Rattle.digits.specs.Word.{characters_in, step_of};
 ghost use Rattle.digits.specs.bounds.Found.{letter_in, value_in, each_in, FourBy};
 
-use rows::refusal::DIGIT;
+use rows::refusal::Refusal;
 
 // The second of each two bytes, of each two pairs of bytes and of the two halves of a word.
-pub const SECOND_BYTES: u64 = 0x00ff_00ff_00ff_00ff;
+const SECOND_BYTES: u64 = 0x00ff_00ff_00ff_00ff;
 
-pub const SECOND_PAIRS: u64 = 0x0000_ffff_0000_ffff;
+const SECOND_PAIRS: u64 = 0x0000_ffff_0000_ffff;
 
-pub const SECOND_HALF: u64 = 0xffff_ffff;
-
-// What the step gives: the four bytes that the digits of a word write, the first highest, or the
-// number of the refusal.
-#[derive(Clone, Copy)]
-pub enum WordBytes {
-    Four(u32),
-    Refused(u8),
-}
+const SECOND_HALF: u64 = 0xffff_ffff;
 
 // Bit 6 of each character.
 fn letters(word: u64) -> u64
@@ -59,12 +51,15 @@ pub fn four_by(value: u64) -> u32
     ((pairs | (pairs >> 16)) & SECOND_HALF) as u32
 }
 
-// The step: the bytes where all eight are digits, else refusal 2.
-pub fn read_word(word: u64) -> WordBytes
+// The step: the four bytes that the digits of a word write, the first highest, where all eight are
+// digits, else refusal 2.
+#[tactic(auto, unfolding(crate::specs::Word::step_of))]
+pub fn read_word(word: u64) -> Result<u32, Refusal>
     ensures { result ≡ step_of word }
 {
     if are_eight(word) {
-        return WordBytes::Four(four_by(values(word)));
+        Ok(four_by(values(word)))
+    } else {
+        Err(Refusal::Digit)
     }
-    WordBytes::Refused(DIGIT)
 }

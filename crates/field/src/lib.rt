@@ -1,5 +1,6 @@
 // Rows 3 to 7 of the refusals, each true where the row fits, and the numbers that they go by: document
-// 01, "Refused". Those of a residue line stand in `residue`.
+// 01, "Refused". Those of a residue line stand in `residue`. Kinds, tags and products are bytes here, and
+// no enums: a row is asked of any byte that a line or a record holds, and fewer would ask more of callers.
 
 #![tactic(auto)]
 
@@ -14,6 +15,11 @@ use percent::is_accepted;
 pub const MAINTENANCE: u8 = 1;
 
 pub const STUDY: u8 = 2;
+
+// Classes of a product: ground beef, and the one that dry salami and pepperoni are of.
+pub const GROUND_BEEF: u8 = 1;
+
+const OTHER_MEAT: u8 = 2;
 
 // The years of a line.
 const FIRST_YEAR: u16 = 2000;
@@ -56,7 +62,7 @@ pub struct Tagged {
 pub fn kind_row(kind: u8) -> bool
     ensures { result ≡ kind_row kind }
 {
-    !((kind == MAINTENANCE) | (kind == STUDY))
+    !matches!(kind, MAINTENANCE | STUDY)
 }
 
 // A year or a month that no line has.
@@ -64,7 +70,7 @@ pub fn kind_row(kind: u8) -> bool
 pub fn date_row(year: u16, month: u8) -> bool
     ensures { result ≡ date_row year month }
 {
-    (year < FIRST_YEAR) | (LAST_YEAR < year) | (month < 1) | (12 < month)
+    !(FIRST_YEAR..=LAST_YEAR).contains(&year) | !(1..=12).contains(&month)
 }
 
 // A product that no line has: bits 0 and 1 are the class, and bit 7 is for dry salami or pepperoni.
@@ -72,7 +78,7 @@ pub fn date_row(year: u16, month: u8) -> bool
 pub fn product_row(product: u8) -> bool
     ensures { result ≡ product_row product }
 {
-    (product >> 2 & 31 != 0) | ((product >> 7 != 0) & (product & 3 != 2))
+    (product >> 2 & 31 != 0) | ((product >> 7 != 0) & (product & 3 != OTHER_MEAT))
 }
 
 // Means that no line of the product has.
@@ -83,7 +89,7 @@ pub fn mean_row(product: u8, m: Means) -> bool
     ((MOST < m.moisture) | (MOST < m.protein) | (MOST < m.fat) | (MOST < m.salt))
         | (m.protein < LEAST_PROTEIN)
         | (m.fat == 0)
-        | ((product & 3 == 1) & (m.fat < LEAST_BEEF_FAT))
+        | ((product & 3 == GROUND_BEEF) & (m.fat < LEAST_BEEF_FAT))
 }
 
 // A reading that no line has.
@@ -91,7 +97,9 @@ pub fn mean_row(product: u8, m: Means) -> bool
 pub fn reading_row(t: Tagged) -> bool
     ensures { result ≡ reading_row t }
 {
-    (LOST < t.tag)
-        | ((PERCENT < t.tag) & (t.bits != 0))
-        | ((t.tag == PERCENT) & !is_accepted(t.bits))
+    match t.tag {
+        PERCENT => !is_accepted(t.bits),
+        NOTHING_FOUND | LOST => t.bits != 0,
+        _ => true,
+    }
 }

@@ -51,7 +51,7 @@ pub fn compound_row(given: u8, compound: u8) -> bool
 fn is_outside(log: i16) -> bool
     ensures { result ≡ outside log }
 {
-    (log < LEAST_LOG) | (MOST_LOG < log)
+    !(LEAST_LOG..=MOST_LOG).contains(&log)
 }
 
 // A log that no line has: the result's is looked at under its own tag alone.
@@ -67,5 +67,5 @@ pub fn log_row(comparison: i16, tag: u8, res: i16) -> bool
 pub fn result_row(tag: u8, res: i16, count: u8) -> bool
     ensures { result ≡ result_row tag res count }
 {
-    !((tag == RESULT) | (tag == LOST)) | ((tag == LOST) & (res != 0)) | (MOST_COUNT < count)
+    !matches!(tag, RESULT | LOST) | ((tag == LOST) & (res != 0)) | (MOST_COUNT < count)
 }

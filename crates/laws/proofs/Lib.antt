@@ -1,12 +1,12 @@
 -- Lemmas that know nothing of laboratories.
 pub mod Below
 pub mod Bools
+pub mod Results
 pub mod Masks
 pub mod Table
 pub mod Cond
 pub mod Order
 pub mod Word
-pub mod Casts
 pub mod Signs
 pub mod Lists
 pub mod Gathered

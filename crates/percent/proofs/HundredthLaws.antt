@@ -14,7 +14,8 @@ use lib.Ieee.Exact.{HasValue, odd_sign}
 use lib.Ieee.Nearest.{div_same}
 use Rattle.laws.proofs.Bools.{and_both}
 use Rattle.percent.specs.Percent.{accepted, hundredths_of, rounded_of}
-use Rattle.percent.specs.declared.rounding.Rounded.TheVariants.{Accepted, NotAccepted}
+use Rattle.std.specs.Prelude.{Option, Some, None, IfSome}
+use Rattle.std.specs.Option.{is_some}
 use Rattle.percent.proofs.PercentLaws.{of_bits_is}
 
 -- ---- the hundredths of a value that is the fraction a / c
@@ -137,14 +138,12 @@ one_shifted k h = shl_exact 1 k 32 (lit< tt) (room k h) ∙ one-mul (2 ^ k)
 read_back : (x : Float) (b : ℕ) → T (fits binary32 x) → b ≡ to_bits binary32 x → of_bits binary32 b ≡ x
 read_back x b F e = ap (of_bits binary32) e ∙ of_bits-to_bits binary32 x F
 
-pub not_accepted : (x : Float) (b : ℕ) → T (fits binary32 x) → b ≡ to_bits binary32 x → accepted (of_bits binary32 b) ≡ false → rounded_of x ≡ NotAccepted
+-- what is given of an accepted pattern, and of no other
+pub is_rounded : (x : Float) (b : ℕ) (r : Option ℕ) → T (fits binary32 x) → b ≡ to_bits binary32 x → is_some r ≡ accepted (of_bits binary32 b)
+    → IfSome r (λ n. n ≡ hundredths_of (of_bits binary32 b)) → r ≡ rounded_of x
 unfolding rounded_of
-not_accepted x b F e h = rw (ap accepted (sym (read_back x b F e)) ∙ h)
-
-pub is_rounded : (x : Float) (b : ℕ) → T (fits binary32 x) → b ≡ to_bits binary32 x → accepted (of_bits binary32 b) ≡ true
-    → rounded_of x ≡ Accepted (hundredths_of (of_bits binary32 b))
-unfolding rounded_of
-is_rounded x b F e h = rw (ap accepted (sym (read_back x b F e)) ∙ h, read_back x b F e)
+is_rounded x b None F e v h = rw (← read_back x b F e, ← v)
+is_rounded x b (Some n) F e v h = rw (← read_back x b F e, ← v, h)
 
 -- ---- an accepted percent has at most a hundred times 100 hundredths
 

@@ -8,9 +8,8 @@ use native.Mathlib.Omega.{arith}
 use borrow.Author.Tests.{le-ltb, le-leb, lt-leb, leb-true, leb-false, eqb-true, eqb-false, eq-eqb, ne_eqb}
 use lib.Dec.{T, ltb, leb, eqb, lit≤, lit<}
 use lib.Pow.{pow_pos, pow_mono}
-use lib.Ieee.{Float, nan, inf, fin, binary32, up, down, odd, of_fields, of_bits, nan_bits, is_nan, ne}
+use lib.Ieee.{Float, nan, inf, fin, binary32, up, down, odd, of_fields, of_bits, to_bits, nan_bits, is_nan}
 use lib.Ieee.Bits.{nan_bits_above}
-use lib.Ieee.Compare.{nan_differs}
 use lib.Ieee.Fits.{down_pos}
 use lib.Ieee.Exact.{HasValue, odd_sign}
 use Rattle.laws.proofs.Bools.{either}
@@ -139,10 +138,10 @@ not_nan b h =
     let low : ltb 2139095040 (b % 2147483648) ≡ false = le-ltb 2139095040 (b % 2147483648) (omega arith) in
     subst (λ (t : Bool). T (not t)) (sym (nan_bits_above binary32 b ∙ low)) tt
 
--- ---- a float that equals itself is no NaN
+-- ---- the pattern that stands for every NaN
 
-pub no_nan : (x : Float) → ne x x ≡ false → T (not (is_nan x))
-unfolding is_nan
-no_nan nan e = absurd (true≢false (sym nan_differs ∙ e))
-no_nan (inf s) e = tt
-no_nan (fin s m k) e = tt
+pub nan_pattern : (x : Float) → is_nan x ≡ true → 0x7fc00000 ≡ to_bits binary32 x
+unfolding is_nan to_bits
+nan_pattern nan e = refl
+nan_pattern (inf s) e = absurd (true≢false (sym e))
+nan_pattern (fin s m k) e = absurd (true≢false (sym e))

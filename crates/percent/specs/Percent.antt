@@ -1,10 +1,8 @@
 -- Document 01, "The line": which percent is accepted, and its hundredths. Both speak of the binary32 value: `fin s m e` is the number
 -- m · 2 ^ e, negative where s is true, and 2 ^ e is the fraction `up e` / `down e`.
-use Rattle.std.specs.Prelude.{ℕ, ◌+◌, ◌*◌, ◌/◌, Bool, false, cond, not, ◌&&◌, leb, Float}
+use Rattle.std.specs.Prelude.{ℕ, ◌+◌, ◌*◌, ◌/◌, Bool, false, cond, not, ◌&&◌, leb, Float, Option, Some, None}
 use Rattle.std.specs.Float.{nan, inf, fin}
 use Rattle.std.specs.Float.Ieee.{up, down}
-use Rattle.percent.specs.declared.rounding.Rounded.{Rounded}
-use Rattle.percent.specs.declared.rounding.Rounded.TheVariants.{Accepted, NotAccepted}
 
 -- the sign bit is clear and the value is at most 100.0
 unfoldable pub accepted : Float → Bool
@@ -19,5 +17,5 @@ hundredths_of (inf s) = 0
 hundredths_of (fin s m e) = (2 * (100 * (m * up e)) + down e) / (2 * down e)
 
 -- the hundredths of an accepted percent, and of no other float
-unfoldable pub rounded_of : Float → Rounded
-rounded_of x = cond (accepted x) (Accepted (hundredths_of x)) NotAccepted
+unfoldable pub rounded_of : Float → Option ℕ
+rounded_of x = cond (accepted x) (Some (hundredths_of x)) None

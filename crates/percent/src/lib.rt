@@ -6,4 +6,4 @@ mod pattern;
 mod rounding;
 
 pub use pattern::{bits_of, is_accepted};
-pub use rounding::{Rounded, hundredths_of};
+pub use rounding::hundredths_of;

@@ -9,20 +9,20 @@ ghost use Rattle.percent.specs.Percent.{accepted};
 // their values, and those with a sign, the infinities and the NaNs come after it.
 const HUNDRED: u32 = 0x42c8_0000;
 
-// A NaN's bit pattern: which one does not matter, since none is accepted.
+// A NaN's bit pattern, which std's `to_bits` does not give: which one does not matter, since none is
+// accepted.
 const NAN: u32 = 0x7fc0_0000;
 
 // The bit pattern of a float.
+#[tactic(auto, using(crate::proofs::PercentLaws::nan_pattern))]
 pub fn bits_of(x: f32) -> u32
     ensures { result ≡ to_bits binary32 x }
 {
-    if x != x {
-        return NAN;
-    }
-    f32::to_bits(x)
+    if x.is_nan() { NAN } else { x.to_bits() }
 }
 
 // Whether a pattern is that of a percent with its sign bit clear and at most 100.0.
+#[tactic(auto, using(crate::proofs::PercentLaws::accepted_pattern))]
 pub fn is_accepted(bits: u32) -> bool
     ensures { result ≡ accepted (of_bits binary32 bits) }
 {

@@ -1,18 +1,11 @@
 // A percent in hundredths, to the nearest, halves up.
 
-ghost use Rattle.std.specs.Prelude.{◌≡◌, ◌≤◌, ◌+◌, ◌%◌};
+ghost use Rattle.std.specs.Prelude.{◌≡◌, true, ◌+◌, ◌%◌};
 ghost use Rattle.std.specs.Float.{binary32};
 ghost use Rattle.std.specs.Float.Ieee.{of_bits};
-ghost use Rattle.percent.specs.Percent.{hundredths_of, rounded_of};
+ghost use Rattle.percent.specs.Percent.{accepted, hundredths_of, rounded_of};
 
 use crate::pattern::{bits_of, is_accepted};
-
-// The hundredths of an accepted percent. Another float has none.
-#[derive(Clone, Copy)]
-pub enum Rounded {
-    Accepted(u16),
-    NotAccepted,
-}
 
 // The significand of a pattern whose exponent's field is not 0: a leading one, and the lowest 23
 // bits.
@@ -24,8 +17,9 @@ fn significand(bits: u32) -> u32
 
 // The hundredths of an accepted pattern. The value is the significand halved `down` times. From 32
 // halvings on nothing is left of a hundred times it.
+#[tactic(auto, using(crate::proofs::PercentLaws::percent_bits))]
 fn hundredths(bits: u32) -> u16
-    requires { bits ≤ 0x42c80000 }
+    requires { accepted (of_bits binary32 bits) ≡ true }
     ensures { result ≡ hundredths_of (of_bits binary32 bits) }
 {
     let exponent = bits >> 23;
@@ -37,13 +31,10 @@ fn hundredths(bits: u32) -> u16
     ((100 * significand(bits) + half) >> down) as u16
 }
 
-// The hundredths of a float, if it is accepted as a percent.
-pub fn hundredths_of(x: f32) -> Rounded
+// The hundredths of a float, if it is accepted as a percent. Another float has none.
+pub fn hundredths_of(x: f32) -> Option<u16>
     ensures { result ≡ rounded_of x }
 {
     let bits = bits_of(x);
-    if is_accepted(bits) {
-        return Rounded::Accepted(hundredths(bits));
-    }
-    Rounded::NotAccepted
+    is_accepted(bits).then(|| hundredths(bits))
 }

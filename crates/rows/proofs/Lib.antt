@@ -1,2 +1,3 @@
 -- Laws of the first row that fits, cited by the crates above.
+pub mod AnswerLaws
 pub mod RowsLaws

@@ -4,30 +4,35 @@
 
 pub mod refusal;
 
-ghost use Rattle.std.specs.Prelude.{◌≡◌, cond};
-ghost use Rattle.rows.specs.Rows.{first_row, rows_of};
+ghost use Rattle.std.specs.Prelude.{◌≡◌};
+ghost use Rattle.rows.specs.Rows.{first_row};
 
-// A row's number where it fits, else what the rows after it give.
-fn given(fits: bool, number: u8, later: u8) -> u8
-    ensures { result ≡ cond fits number later }
-{
-    if fits { number } else { later }
+use refusal::Refusal;
+
+// A row of the table: the refusal that it stands for, and whether it fits.
+#[derive(Clone, Copy)]
+pub struct Row {
+    pub refusal: Refusal,
+    pub fits: bool,
 }
 
-// The number of the first of five rows that fits, or 0 where none does.
-pub fn first_of(
-    numbers: [u8; 5],
-    first: bool,
-    second: bool,
-    third: bool,
-    fourth: bool,
-    fifth: bool,
-) -> u8
-    ensures { result ≡ first_row (rows_of numbers first second third fourth fifth) }
+impl Row {
+    // The row of a refusal, and whether it fits.
+    pub fn new(refusal: Refusal, fits: bool) -> Row
+        ensures { result ≡ record { refusal = refusal; fits = fits } }
+    {
+        Row { refusal, fits }
+    }
+}
+
+// Nothing where no row fits, or the refusal of the first that does.
+pub fn first_of(rows: &[Row]) -> Result<(), Refusal>
+    ensures { result ≡ first_row rows.now }
 {
-    let mut number = given(fifth, numbers[4], 0);
-    number = given(fourth, numbers[3], number);
-    number = given(third, numbers[2], number);
-    number = given(second, numbers[1], number);
-    given(first, numbers[0], number)
+    for row in rows {
+        if row.fits {
+            return Err(row.refusal);
+        }
+    }
+    Ok(())
 }

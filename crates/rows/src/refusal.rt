@@ -1,22 +1,44 @@
-// The numbers of rows 1 to 7 and 13, document 01, "Refused", and of rows 14 and 15, document 02,
-// request One.
+// The rows of the table of refusals: document 01, "Refused", and document 02, request One.
 
-pub const LENGTH: u8 = 1;
+ghost use Rattle.std.specs.Prelude.{◌≡◌, Some};
+ghost use Rattle.std.specs.Fmt.{decimal};
+ghost use Rattle.rows.specs.Refusal.{number_of};
 
-pub const DIGIT: u8 = 2;
+use std::fmt;
 
-pub const KIND: u8 = 3;
+// Why a line, a record, a reading or a compound is refused: a name for each row of the table, by number.
+#[derive(Clone, Copy, Debug, PartialEq, Eq)]
+pub enum Refusal {
+    Length = 1,
+    Digit = 2,
+    Kind = 3,
+    Date = 4,
+    Product = 5,
+    Mean = 6,
+    Reading = 7,
+    Closed = 8,
+    Stage = 9,
+    Backdated = 10,
+    Gap = 11,
+    Full = 12,
+    Short = 13,
+    Compound = 14,
+    Log = 15,
+}
 
-pub const DATE: u8 = 4;
+// The row's number, which is what a unit and the programs show of a refusal.
+impl From<Refusal> for u8 {
+    ghost from_gives = { λ refusal number. number ≡ number_of refusal };
 
-pub const PRODUCT: u8 = 5;
+    fn from(refusal: Refusal) -> u8 {
+        refusal as u8
+    }
+}
 
-pub const MEAN: u8 = 6;
+impl fmt::Display for Refusal {
+    ghost output = { λ refusal. Some (decimal (number_of refusal)) };
 
-pub const READING: u8 = 7;
-
-pub const SHORT: u8 = 13;
-
-pub const COMPOUND: u8 = 14;
-
-pub const LOG: u8 = 15;
+    fn fmt<W: fmt::Write>(&self, f: &mut fmt::Formatter<W>) -> fmt::Result {
+        write!(f, "{}", u8::from(*self))
+    }
+}

@@ -1,10 +1,7 @@
--- `sum_of`: the sum is that of the first i, each at most 255.
-use Rattle.std.proofs.Common.{◌-◌, ◌≡◌, ◌≤◌, take, ◌*◌}
+-- `sum_of`: the sum and that of the counts to come are all, and each is at most 255.
+use Rattle.std.proofs.Common.{◌≡◌, ◌+◌, ◌≤◌, drop, ◌*◌}
 use Rattle.grounds.specs.Window.{sum}
 use Rattle.counts.proofs.sum_of.Given as goal
 
-abbrev pub invariant-loop-i : goal.invariant-loop-i
-invariant-loop-i l = (l.i ≤ l.width) × (l.sum ≡ sum (take l.i l.latest)) × (l.sum ≤ 255 * l.i)
-
-abbrev pub decreases-loop-i : goal.decreases-loop-i
-decreases-loop-i l = l.width - l.i
+abbrev pub invariant-loop-count : goal.invariant-loop-count
+invariant-loop-count l = (l.sum + sum (drop l.count-index l.counts) ≡ sum l.counts) × (l.sum ≤ 255 * l.count-index)

@@ -1,10 +1,7 @@
--- Whether the characters of the first k words are digits.
-use Rattle.std.proofs.Common.{◌≡◌, ◌-◌, ◌*◌, ◌≤◌, take}
-use Rattle.digits.specs.Digits.{are_digits}
+-- With the words to come, all are looked at.
+use Rattle.std.proofs.Common.{◌≡◌, ◌&&◌, drop}
+use Rattle.digits.specs.bounds.Words.{all_digits}
 use Rattle.digits.proofs.read.are_words.Given as goal
 
-abbrev pub invariant-loop-k : goal.invariant-loop-k
-invariant-loop-k l = (l.k ≤ l.words) × (l.good ≡ are_digits (take (8 * l.k) l.digits))
-
-abbrev pub decreases-loop-k : goal.decreases-loop-k
-decreases-loop-k l = l.words - l.k
+abbrev pub invariant-loop-word : goal.invariant-loop-word
+invariant-loop-word l = (l.good && all_digits (drop l.word-index l.words)) ≡ all_digits l.words

@@ -13,20 +13,15 @@ returns-then-buffer-bytes-clause-digits c = (no_room c.args.bytes.now c.args.buf
 
 pub loop-i-init : goal.loop-i-init
 unfolding digits_of
-loop-i-init c = (omega arith, refl)
+loop-i-init c = refl
 
 pub loop-i-preserved : goal.loop-i-preserved
 loop-i-preserved c =
-    let at = c.loop-i in (
-      omega arith,
-      rw at.invariant.1
-          (write_more c.args.bytes.now c.args.buffer.now at.i c.high_digit.result c.low_digit.result (omega arith) (omega arith) c.high_digit.ensures c.low_digit.ensures),
-    )
+    rw c.loop-i.invariant
+    (write_more c.args.bytes.now c.args.buffer.now c.loop-i.i c.high_digit.result c.low_digit.result (omega arith) (omega arith) c.high_digit.ensures c.low_digit.ensures)
 
 pub returns-clause-answer : goal.returns-clause-answer
-returns-clause-answer c =
-    (written_all c.args.bytes.now c.args.buffer.now c.loop-i.i c.loop-i.buffer (omega arith) (omega arith) c.loop-i.invariant.1).0
+returns-clause-answer c = (written_all c.args.bytes.now c.args.buffer.now c.loop-i.i c.loop-i.buffer (omega arith) (omega arith) c.loop-i.invariant).0
 
 pub returns-clause-digits : goal.returns-clause-digits
-returns-clause-digits c =
-    (written_all c.args.bytes.now c.args.buffer.now c.loop-i.i c.loop-i.buffer (omega arith) (omega arith) c.loop-i.invariant.1).1
+returns-clause-digits c = (written_all c.args.bytes.now c.args.buffer.now c.loop-i.i c.loop-i.buffer (omega arith) (omega arith) c.loop-i.invariant).1
