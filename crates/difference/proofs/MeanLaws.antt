@@ -9,6 +9,8 @@ use lib.Dec.{ltb, eqb}
 use Rattle.laws.proofs.Bools.{or_neither}
 use Rattle.field.specs.Refused.{mean_row, MOST, LEAST_PROTEIN, LEAST_BEEF_FAT, class_of}
 use Rattle.field.specs.declared.Means.{Means}
+use Rattle.difference.specs.declared.analyte.Analyte.{Analyte}
+use Rattle.difference.specs.declared.analyte.Analyte.TheVariants.{Moisture, Protein, Fat, Salt}
 use Rattle.difference.specs.Standardize.{least_mean, bad_mean}
 use Rattle.difference.specs.bounds.Means.{GoodMean}
 
@@ -39,14 +41,14 @@ by_analyte_lem false false false false false false true = refl
 by_analyte_lem false false false false false false false = refl
 
 pub mean_rows : (product : ℕ) (m : Means) → let class = class_of product in
-    mean_row product m ≡ (bad_mean class 0 m.moisture || bad_mean class 1 m.protein || bad_mean class 2 m.fat || bad_mean class 3 m.salt)
+    mean_row product m ≡ (bad_mean class Moisture m.moisture || bad_mean class Protein m.protein || bad_mean class Fat m.fat || bad_mean class Salt m.salt)
 unfolding mean_row bad_mean least_mean
 mean_rows product m =
     by_analyte_lem (ltb MOST m.moisture) (ltb MOST m.protein) (ltb MOST m.fat) (ltb MOST m.salt) (ltb m.protein LEAST_PROTEIN)
     (eqb m.fat 0) (eqb (class_of product) 1 && ltb m.fat LEAST_BEEF_FAT)
     ∙ rw (fat_row (eqb (class_of product) 1) m.fat, le-ltb m.moisture 0 (omega arith), le-ltb m.salt 0 (omega arith))
 
-pub good_mean : (class analyte m : ℕ) → bad_mean class analyte m ≡ false → GoodMean class analyte m
+pub good_mean : (class : ℕ) (analyte : Analyte) (m : ℕ) → bad_mean class analyte m ≡ false → GoodMean class analyte m
 unfolding bad_mean
 good_mean class analyte m e =
     let b = or_neither (ltb m (least_mean class analyte)) (ltb MOST m) e in

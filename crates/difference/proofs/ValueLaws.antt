@@ -1,19 +1,20 @@
 -- Bounds of the standardizing value: the powers are asked for means that they have, the product fits 32 bits, and it is not 0. Assumes nothing.
-use mathlib.Core.Path.{◌≡◌, subst}
 use mathlib.Core.Bool.{Bool, cond, ◌&&◌}
 use Prim.Native.Nat.{ℕ, zero, suc, ◌≤◌, ◌<◌}
 use native.Mathlib.Nat.{mul-le-mul, mod-lt}
 use native.Mathlib.Omega.{arith}
 use lib.Dec.{eqb, leb, ltb, lit<, lit≤}
-use borrow.Author.Tests.{eqb-true, ltb-false}
+use borrow.Author.Tests.{ltb-false}
 use Rattle.laws.proofs.Cond.{cases}
 use Rattle.difference.proofs.PowerList.{power_positive}
 use Rattle.difference.proofs.Fourth.{root_positive}
+use Rattle.difference.specs.declared.analyte.Analyte.{Analyte}
+use Rattle.difference.specs.declared.analyte.Analyte.TheVariants.{Moisture, Protein, Fat, Salt}
 use Rattle.difference.specs.declared.coefficient.Coefficient.{Coefficient}
 use Rattle.difference.specs.declared.coefficient.Coefficient.TheVariants.{Constant, P, Q}
 use Rattle.difference.proofs.Coefficients.{thousandths}
 use Rattle.field.specs.Refused.{MOST, LEAST_PROTEIN, LEAST_BEEF_FAT, class_of, is_dry}
-use Rattle.difference.specs.Difference.{moisture, protein, fat, salt, coefficient_for, coefficient_of, value_by, value_of, tenths_of, power_of}
+use Rattle.difference.specs.Difference.{moisture, fat, salt, coefficient_for, coefficient_of, value_by, value_of, tenths_of, power_of}
 use Rattle.difference.specs.Standardize.{least_mean}
 use Rattle.difference.specs.bounds.Means.{GoodMean}
 
@@ -26,25 +27,24 @@ moisture_small (suc (suc zero)) h = omega arith
 moisture_small (suc (suc (suc zero))) h = omega arith
 moisture_small (suc (suc (suc (suc n)))) h = absurd (omega arith)
 
-protein_mean : (class m : ℕ) → GoodMean class 1 m → LEAST_PROTEIN ≤ m
+protein_mean : (class m : ℕ) → GoodMean class Protein m → LEAST_PROTEIN ≤ m
 unfolding least_mean
 protein_mean class m g = g.least
 
-fat_mean : (class m : ℕ) → GoodMean class 2 m → 1 ≤ m
+fat_mean : (class m : ℕ) → GoodMean class Fat m → 1 ≤ m
 unfolding least_mean
 fat_mean class m g =
     cases (λ (n : ℕ). n ≤ m → 1 ≤ m) (eqb class 1) LEAST_BEEF_FAT 1 (λ _ h. omega arith) (λ _ h. h) g.least
 
-module _ (H : Coefficient → Type 0) (class : ℕ) (dry : Bool) (analyte m : ℕ) (small : class < 4) (good : GoodMean class analyte m)
-    (constant : (k : ℕ) → 1 ≤ k → k ≤ 710 → H (Constant k)) (p : analyte ≡ 1 → H (P 60))
+module _ (H : Coefficient → Type 0) (class : ℕ) (dry : Bool) (m : ℕ) (small : class < 4)
+    (constant : (k : ℕ) → 1 ≤ k → k ≤ 710 → H (Constant k)) (p : LEAST_PROTEIN ≤ m → H (P 60))
     (q : (k : ℕ) → 1 ≤ k → k ≤ 710 → 1 ≤ m → H (Q k)) where
   of_moisture : H (moisture class)
   of_moisture = constant (thousandths (moisture class)) (moisture_small class small).0 (moisture_small class small).1
 
-  of_fat : analyte ≡ 2 → H (fat class m)
+  of_fat : 1 ≤ m → H (fat class m)
   unfolding fat
-  of_fat h =
-      let some = fat_mean class m (subst (λ (a : ℕ). GoodMean class a m) h good) in
+  of_fat some =
       cases H (eqb class 1) (Q 350) (cond (ltb m 1250) (Q 260) (Q 300))
       (λ _. q 350 (lit≤ tt) (lit≤ tt) some)
       (λ _. cases H (ltb m 1250) (Q 260) (Q 300)
@@ -60,14 +60,12 @@ module _ (H : Coefficient → Type 0) (class : ℕ) (dry : Bool) (analyte m : �
       (λ _. constant 220 (lit≤ tt) (lit≤ tt))
       (λ _. q 127 (lit≤ tt) (lit≤ tt) (omega (arith, ltb-false m 100 e))))
 
-  pub each : H (coefficient_for class dry analyte m)
+  pub each : (analyte : Analyte) → GoodMean class analyte m → H (coefficient_for class dry analyte m)
   unfolding coefficient_for
-  each =
-      cases H (eqb analyte 0) (moisture class) (cond (eqb analyte 1) protein (cond (eqb analyte 2) (fat class m) (salt dry m)))
-      (λ _. of_moisture)
-      (λ _. cases H (eqb analyte 1) protein (cond (eqb analyte 2) (fat class m) (salt dry m))
-      (λ e. p (eqb-true analyte 1 e))
-      (λ _. cases H (eqb analyte 2) (fat class m) (salt dry m) (λ e. of_fat (eqb-true analyte 2 e)) (λ _. of_salt)))
+  each Moisture good = of_moisture
+  each Protein good = p (protein_mean class m good)
+  each Fat good = of_fat (fat_mean class m good)
+  each Salt good = of_salt
 
 -- a mean of at least LEAST_PROTEIN hundredths is at least 1 tenth
 tenths_positive : {m : ℕ} → LEAST_PROTEIN ≤ m → m ≤ MOST → 1 ≤ power_of (tenths_of m)
@@ -75,12 +73,9 @@ tenths_positive {m} h l = power_positive (tenths_of m) (omega arith) (omega arit
 
 -- ---- so the powers are asked for means that they have, and the value is positive and fits
 
-module _ (product analyte m : ℕ) (good : GoodMean (class_of product) analyte m) where
-  abbrev theirs : (H : Coefficient → Type 0) → ((k : ℕ) → 1 ≤ k → k ≤ 710 → H (Constant k)) → (analyte ≡ 1 → H (P 60)) → ((k : ℕ) → 1 ≤ k → k ≤ 710 → 1 ≤ m → H (Q k)) → H (coefficient_of product analyte m)
-  theirs H = each H (class_of product) (is_dry product) analyte m (mod-lt product (lit< tt)) good
-
-  at_protein : analyte ≡ 1 → GoodMean (class_of product) 1 m
-  at_protein h = subst (λ (a : ℕ). GoodMean (class_of product) a m) h good
+module _ (product : ℕ) (analyte : Analyte) (m : ℕ) (good : GoodMean (class_of product) analyte m) where
+  abbrev theirs : (H : Coefficient → Type 0) → ((k : ℕ) → 1 ≤ k → k ≤ 710 → H (Constant k)) → (LEAST_PROTEIN ≤ m → H (P 60)) → ((k : ℕ) → 1 ≤ k → k ≤ 710 → 1 ≤ m → H (Q k)) → H (coefficient_of product analyte m)
+  theirs H constant p q = each H (class_of product) (is_dry product) m (mod-lt product (lit< tt)) constant p q analyte good
 
   pub coefficient_small : thousandths (coefficient_of product analyte m) ≤ 710
   coefficient_small = theirs (λ (c : Coefficient). thousandths c ≤ 710) (λ k _ h. h) (λ _. lit≤ tt) (λ k _ h _. h)
@@ -92,11 +87,11 @@ module _ (product analyte m : ℕ) (good : GoodMean (class_of product) analyte m
   HasPower (Q k) = Unit {0}
 
   pub only_protein : HasPower (coefficient_of product analyte m)
-  only_protein = theirs HasPower (λ k _ _. tt) (λ h. protein_mean (class_of product) m (at_protein h)) (λ k _ _ _. tt)
+  only_protein = theirs HasPower (λ k _ _. tt) (λ h. h) (λ k _ _ _. tt)
 
   pub value_positive : 0 < value_of product analyte m
   value_positive =
       theirs (λ (c : Coefficient). 0 < value_by c m)
       (λ k h _. omega arith)
-      (λ h. mul-le-mul (lit≤ {m = 1} {n = 60} tt) (tenths_positive (protein_mean (class_of product) m (at_protein h)) good.most))
+      (λ h. mul-le-mul (lit≤ {m = 1} {n = 60} tt) (tenths_positive h good.most))
       (λ k h _ some. mul-le-mul h (root_positive m some good.most))

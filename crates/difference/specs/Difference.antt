@@ -1,6 +1,8 @@
 -- Document 01, "Standardizing value and difference", from the mean to the standardizing value and the difference.
 use Rattle.std.specs.Prelude.{ℕ, suc, ◌+◌, ◌*◌, ◌/◌, ◌^◌, ◌≤◌, min, Bool, cond, ◌&&◌, [], ◌∷◌, ℤ, pos, negsuc, neg_ℤ, ◌-ℤ◌, eqb, leb, ltb, get_or}
 use Rattle.field.specs.Refused.{MOST, class_of, is_dry}
+use Rattle.difference.specs.declared.analyte.Analyte.{Analyte}
+use Rattle.difference.specs.declared.analyte.Analyte.TheVariants.{Moisture, Protein, Fat, Salt}
 use Rattle.difference.specs.declared.coefficient.Coefficient.{Coefficient}
 use Rattle.difference.specs.declared.coefficient.Coefficient.TheVariants.{Constant, P, Q}
 use Rattle.difference.specs.declared.difference.Difference.{Difference}
@@ -53,12 +55,13 @@ fat class m = cond (eqb class 1) (Q 350) (cond (ltb m 1250) (Q 260) (Q 300))
 unfoldable pub salt : Bool → ℕ → Coefficient
 salt dry m = cond (ltb m 100) (Constant 127) (cond (leb 400 m && dry) (Constant 220) (Q 127))
 
--- analytes are numbered moisture 0, protein 1, fat 2, salt 3
-unfoldable pub coefficient_for : ℕ → Bool → ℕ → ℕ → Coefficient
-coefficient_for class dry analyte m =
-    cond (eqb analyte 0) (moisture class) (cond (eqb analyte 1) protein (cond (eqb analyte 2) (fat class m) (salt dry m)))
+unfoldable pub coefficient_for : ℕ → Bool → Analyte → ℕ → Coefficient
+coefficient_for class dry Moisture m = moisture class
+coefficient_for class dry Protein m = protein
+coefficient_for class dry Fat m = fat class m
+coefficient_for class dry Salt m = salt dry m
 
-abbrev pub coefficient_of : ℕ → ℕ → ℕ → Coefficient
+abbrev pub coefficient_of : ℕ → Analyte → ℕ → Coefficient
 coefficient_of product = coefficient_for (class_of product) (is_dry product)
 
 -- the value s = k × p, in ten-millionths of a percent; a constant's p is 1, in ten-thousandths as the others
@@ -67,7 +70,7 @@ value_by (Constant k) m = k * 10000
 value_by (P k) m = k * power_of (tenths_of m)
 value_by (Q k) m = k * root_of m
 
-abbrev pub value_of : ℕ → ℕ → ℕ → ℕ
+abbrev pub value_of : ℕ → Analyte → ℕ → ℕ
 value_of product analyte m = value_by (coefficient_of product analyte m) m
 
 -- h is the reading minus the mean, in hundredths

@@ -11,11 +11,13 @@ pub enum Category {
     Residue(u8),
 }
 
-pub fn constants_of(category: Category) -> Constants
-    ensures { result ≡ constants_of category }
-{
-    match category {
-        Category::Food => FOOD,
-        Category::Residue(_) => RESIDUE,
+impl Category {
+    pub fn constants(self) -> Constants
+        ensures { result ≡ constants_of self }
+    {
+        match self {
+            Category::Food => FOOD,
+            Category::Residue(_) => RESIDUE,
+        }
     }
 }

@@ -1,3 +1,5 @@
+// The analyte categories' numbers.
+
 // The most analytes that a category has.
 pub const ANALYTES: usize = 4;
 

@@ -1,9 +1,10 @@
 // What a difference adds to each of its analyte's four charts, and the charts' limits. Document 01, "Contributions to the charts".
 ghost use Rattle.std.specs.Prelude.{◌≡◌, ◌≤◌, nat_abs};
-ghost use Rattle.difference.specs.Contribution.{increment_of, variable_of, measure_of, contributions_of, limit_of};
+ghost use Rattle.difference.specs.Contribution.{increment_of, positive_of, negative_of, variable_of, measure_of, deviant_of, contributions_of, limit_of};
 
 use crate::constants::Constants;
 use crate::difference::Difference;
+use crate::nearest::nearest;
 
 // What is added to the four charts of an analyte: the regulation's increments, for N with its sign
 // turned.
@@ -15,20 +16,8 @@ pub struct Contributions {
     pub d: i32,
 }
 
-// A signed number without its sign.
-pub fn size(z: i32) -> u32
-    ensures { result ≡ nat_abs z }
-{
-    let wide = z as i64;
-    if wide < 0 {
-        (-wide) as u32
-    } else {
-        wide as u32
-    }
-}
-
 // The least size of a large deviation, in tenths.
-const LARGE: u64 = 25;
+const LARGE: u32 = 25;
 
 // 1, in ten-thousandths.
 const WHOLE: u64 = 10_000;
@@ -38,11 +27,10 @@ const WHOLE: u64 = 10_000;
 pub fn measure(size: u32) -> u32
     ensures { result ≡ measure_of size }
 {
-    let wide = size as u64;
-    if wide < LARGE {
+    if size < LARGE {
         0
     } else {
-        ((2 * (WHOLE * (wide - LARGE)) + wide) / (2 * wide)) as u32
+        nearest(WHOLE * (size - LARGE) as u64, size as u64) as u32
     }
 }
 
@@ -79,30 +67,18 @@ const FAR: u32 = (USUAL + HIGHEST_V) as u32;
 fn variable(size: u32) -> i32
     ensures { result ≡ variable_of size }
 {
-    if size > FAR {
-        return HIGHEST_V;
-    }
-    let x = size as i32 - USUAL;
-    if x > LOWEST_V { x } else { LOWEST_V }
+    (size.min(FAR) as i32 - USUAL).max(LOWEST_V)
 }
 
 // What the measure is held against in D.
 const ALLOWANCE: i32 = 250;
 
-// A difference's contributions to its analyte's four charts: P and N, systematic difference above and
-// below 0, V, variability, and D, large deviations.
-pub fn contribute(c: Constants, d: Difference) -> Contributions
-    ensures { result ≡ contributions_of c d.tenths }
+// To D, by the difference's size.
+#[tactic(auto, using(crate::proofs::Bounds::measure_small))]
+fn deviant(size: u32) -> i32
+    ensures { result ≡ deviant_of size }
 {
-    let shift = c.shift as i32;
-    let size = size(d.tenths);
-    Contributions {
-        p: increment(d.tenths, c.high, c.low, shift),
-        // the turning points change places, and the increment is subtracted from the chart
-        n: -increment(d.tenths, c.low, c.high, -shift),
-        v: variable(size),
-        d: measure(size) as i32 - ALLOWANCE,
-    }
+    measure(size) as i32 - ALLOWANCE
 }
 
 // The limits of V and D.
@@ -110,14 +86,46 @@ const LIMIT_V: i32 = 43;
 
 const LIMIT_D: i32 = 10_000;
 
-// The limit of a chart, numbered 0 P, 1 N, 2 V, 3 D. No other number is a chart's.
-pub fn limit(c: Constants, chart: u8) -> i32
-    ensures { result ≡ limit_of c chart }
-{
-    match chart {
-        0 | 1 => c.limit as i32,
-        2 => LIMIT_V,
-        3 => LIMIT_D,
-        _ => 0,
+#[tactic(auto, using(crate::proofs::Bounds::increment_small))]
+impl Constants {
+    // To P.
+    fn positive(self, d: i32) -> i32
+        ensures { result ≡ positive_of self d }
+    {
+        increment(d, self.high, self.low, self.shift as i32)
+    }
+
+    // To N: the turning points change places, and the increment is subtracted from the chart.
+    fn negative(self, d: i32) -> i32
+        ensures { result ≡ negative_of self d }
+    {
+        -increment(d, self.low, self.high, -(self.shift as i32))
+    }
+
+    // A difference's contributions to its analyte's four charts: P and N, systematic difference above and
+    // below 0, V, variability, and D, large deviations.
+    pub fn contribute(self, d: Difference) -> Contributions
+        ensures { result ≡ contributions_of self d.tenths }
+    {
+        let size = d.tenths.unsigned_abs();
+        Contributions {
+            p: self.positive(d.tenths),
+            n: self.negative(d.tenths),
+            v: variable(size),
+            d: deviant(size),
+        }
+    }
+
+    // The limit of a chart, numbered 0 P, 1 N, 2 V, 3 D. No other number is a chart's. A number and no enum:
+    // fewer would ask more of callers.
+    pub fn limit(self, chart: u8) -> i32
+        ensures { result ≡ limit_of self chart }
+    {
+        match chart {
+            0 | 1 => self.limit as i32,
+            2 => LIMIT_V,
+            3 => LIMIT_D,
+            _ => 0,
+        }
     }
 }

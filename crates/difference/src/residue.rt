@@ -1,10 +1,9 @@
 // The standardized difference of a residue, from the logs. Document 02, request One.
-ghost use Rattle.std.specs.Prelude.{◌≡◌, ℕ};
+ghost use Rattle.std.specs.Prelude.{◌≡◌};
 ghost use Rattle.difference.specs.Residue.{residue_value, residue_difference};
 
-use crate::contribution::size;
 use crate::difference::Difference;
-use crate::distance::{scaled, signed};
+use crate::distance::scaled;
 
 // The last compound with the first value, and the two values, in thousandths.
 const LAST_OF_FIRST: u8 = 16;
@@ -14,7 +13,7 @@ const FIRST_VALUE: u32 = 200;
 const SECOND_VALUE: u32 = 250;
 
 // Ten tenths make one standardizing value.
-const TENTHS: u64 = 10;
+const TENTHS: u32 = 10;
 
 // The standardizing value of a compound, in thousandths.
 fn residue_value(compound: u8) -> u32
@@ -31,11 +30,9 @@ fn residue_value(compound: u8) -> u32
 pub fn residue_difference(compound: u8, comparison: i16, res: i16) -> Difference
     ensures { result ≡ residue_difference compound comparison res }
 {
-    let h = res as i32 - comparison as i32;
-    Difference {
-        tenths: signed(
-            scaled(TENTHS * size(h) as u64, residue_value(compound)),
-            h < 0,
-        ),
-    }
+    scaled(
+        TENTHS,
+        res as i32 - comparison as i32,
+        residue_value(compound),
+    )
 }

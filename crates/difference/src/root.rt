@@ -30,7 +30,7 @@ fn scale(twos: u32) -> u64
 // `root` mends it, whatever it is. So nothing is said of it.
 fn guess(m: u16) -> u16 {
     // m is 2^twos times 1 + t
-    let zeros = u16::leading_zeros(m) % 16;
+    let zeros = m.leading_zeros() % 16;
     let twos = 15 - zeros;
     let t = ((m as u64) << zeros) % ONE;
     // the fourth root of 1 + t, in 2^-30
@@ -45,8 +45,7 @@ fn guess(m: u16) -> u16 {
 fn fourth(q: u16) -> u64
     ensures { result ≡ q ^ 4 }
 {
-    let square = q as u64 * q as u64;
-    square * square
+    (q as u64).pow(4)
 }
 
 // The largest whole q with q^4 at most 10^14 for each hundredth of the mean `m`.

@@ -1,12 +1,13 @@
 -- Document 01, "The program", and for 08 document 02, request Three: the two bytes of an event, the event byte and the number byte. Elsewhere the number
 -- is 00.
-use Rattle.std.specs.Prelude.{ℕ, cond, eqb}
-use Rattle.rows.specs.Rows.{Given, no_row, a_row}
+use Rattle.std.specs.Prelude.{ℕ, Result, Ok, Err, ⊤}
+use Rattle.rows.specs.declared.refusal.Refusal.{Refusal}
+use Rattle.rows.specs.Refusal.{number_of}
 use Rattle.reply.specs.declared.event.Event.{Event}
 use Rattle.reply.specs.declared.event.Event.TheVariants.{Refused, Sample, Missed, UnderWay, Passed, Failed, ByCharts, ByMisses, ByMisidentifications}
 
 abbrev pub event_byte : Event → ℕ
-event_byte (Refused n) = 0
+event_byte (Refused refusal) = 0
 event_byte Sample = 1
 event_byte Missed = 2
 event_byte (UnderWay n) = 3
@@ -17,7 +18,7 @@ event_byte ByMisses = 7
 event_byte ByMisidentifications = 8
 
 abbrev pub number_byte : Event → ℕ
-number_byte (Refused n) = n
+number_byte (Refused refusal) = number_of refusal
 number_byte Sample = 0
 number_byte Missed = 0
 number_byte (UnderWay n) = n
@@ -27,6 +28,14 @@ number_byte ByCharts = 0
 number_byte ByMisses = 0
 number_byte ByMisidentifications = 0
 
--- what an event gives of the table of refusals: event 00 is refused with its number
-abbrev pub event_row : Event → Given
-event_row e = cond (eqb (event_byte e) 0) (a_row (number_byte e)) no_row
+-- what an event says of the table of refusals: event 00 is refused, by its row
+abbrev pub event_row : Event → Result ⊤ Refusal
+event_row (Refused refusal) = Err refusal
+event_row Sample = Ok tt
+event_row Missed = Ok tt
+event_row (UnderWay n) = Ok tt
+event_row Passed = Ok tt
+event_row Failed = Ok tt
+event_row ByCharts = Ok tt
+event_row ByMisses = Ok tt
+event_row ByMisidentifications = Ok tt

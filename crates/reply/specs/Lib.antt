@@ -1,3 +1,4 @@
--- Document 01, "The program": the bytes of an event, and what the status says of a chart.
+-- Document 01, "The program": the bytes of an event and of a stage, and what the status says of a chart.
 pub mod Event
 pub mod Report
+pub mod Stage

@@ -1,8 +1,10 @@
 // What a line did.
+use rows::refusal::Refusal;
+
 #[derive(Clone, Copy)]
 pub enum Event {
-    // Refused, with the number of the row.
-    Refused(u8),
+    // Refused, by the row.
+    Refused(Refusal),
     // A sample.
     Sample,
     // A missed line.

@@ -1,8 +1,9 @@
 // What the status shows.
+use crate::stage::Stage;
 use difference::constants::CHARTS;
 
 // A chart: whether it is over, and the run shown with its sum.
-#[derive(Clone, Copy)]
+#[derive(Clone, Copy, Default)]
 pub struct ChartReport {
     pub over: bool,
     pub first: u16,
@@ -14,7 +15,7 @@ pub struct ChartReport {
 // and each chart by its number.
 #[derive(Clone, Copy)]
 pub struct Report {
-    pub stage: u8,
+    pub stage: Stage,
     pub samples: u16,
     pub mask: u16,
     pub misses: bool,

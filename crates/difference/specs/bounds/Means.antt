@@ -1,8 +1,9 @@
 -- The means of valid lines, one by one.
 use Rattle.std.specs.Prelude.{ℕ, ◌≤◌}
 use Rattle.field.specs.Refused.{MOST}
+use Rattle.difference.specs.declared.analyte.Analyte.{Analyte}
 use Rattle.difference.specs.Standardize.{least_mean}
 
-pub record GoodMean (class analyte m : ℕ) : Type 0 where
+pub record GoodMean (class : ℕ) (analyte : Analyte) (m : ℕ) : Type 0 where
   pub least : least_mean class analyte ≤ m
   pub most : m ≤ MOST
