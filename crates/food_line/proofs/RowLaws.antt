@@ -7,6 +7,7 @@ use borrow.Author.Tests.{ltb-false, lt-ltb, eq-eqb, eqb-true, not-false}
 use lib.Dec.{ltb, eqb}
 use lib.Ieee.{binary32, of_bits}
 use Rattle.laws.proofs.Bools.{or_neither}
+use Rattle.std.specs.Prelude.{Ok}
 use Rattle.rows.specs.Rows.{first_row}
 use Rattle.rows.proofs.RowsLaws.{passed}
 use Rattle.field.specs.Refused.{PERCENT, LOST, kind_row, date_row, product_row, mean_row, reading_row}
@@ -26,7 +27,7 @@ pub record Clean (f : Fields) : Type 0 where
   pub fat : reading_row f.fat ≡ false
   pub salt : reading_row f.salt ≡ false
 
-pub clean : (f : Fields) → first_row (field_rows f) ≡ 0 → Clean f
+pub clean : (f : Fields) → first_row (field_rows f) ≡ Ok tt → Clean f
 unfolding first_row
 clean f e =
     let k = passed _ _ _ e in

@@ -2,6 +2,7 @@
 pub mod Amount
 pub mod Fields
 pub mod FieldRows
+pub mod Food
 pub mod Read
 pub mod Write
 pub mod Inverse

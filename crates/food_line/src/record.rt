@@ -19,7 +19,8 @@ pub struct Readings {
     pub salt: Reading,
 }
 
-// The analyser record of one check sample.
+// The analyser record of one check sample. Its kind and product are bytes, and no enums: `write` takes a
+// record of any, and refuses it by rows 3 and 5.
 #[derive(Clone, Copy)]
 pub struct Record {
     pub kind: u8,
@@ -29,19 +30,4 @@ pub struct Record {
     pub product: u8,
     pub means: Means,
     pub readings: Readings,
-}
-
-// What reading a line gives: the record, or the number of the refusal.
-#[derive(Clone, Copy)]
-pub enum Read {
-    Whole(Record),
-    Refused(u8),
-}
-
-// A reading in hundredths of a percent. A lost reading has no amount, nor has a percent that no
-// line holds.
-#[derive(Clone, Copy)]
-pub enum Amount {
-    Hundredths(u16),
-    Unknown,
 }

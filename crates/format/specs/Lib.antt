@@ -1,4 +1,5 @@
 -- What every format of a line shares: document 01, rows 1, 2 and 13 of "Refused" and the sentences there on writing.
-pub mod Answer
 pub mod Read
 pub mod Write
+pub mod Layout
+pub mod Sound

@@ -1,52 +1,85 @@
-// What every format of a line shares: its digits to bytes and bytes to its digits, with rows 1, 2 and
-// 13 of the refusals, which come before a format's own rows. Document 01, "The line" and "Refused".
+// What every format of a line shares: rows 1, 2 and 13 of the refusals, which come before a format's own
+// rows, and reading and writing. Document 01, "The line" and "Refused".
 
 #![tactic(auto)]
 
-ghost use Rattle.std.specs.Prelude.{◌≡◌, ◌*◌, length};
-ghost use Rattle.rows.specs.Rows.{first_row};
-ghost use Rattle.digits.specs.Digits.{digits_of};
-ghost use Rattle.digits.specs.Slices.{bytes_after};
-ghost use Rattle.format.specs.Read.{form_rows};
-ghost use Rattle.format.specs.Write.{short_or, written_by, buffer_by};
+mod line;
 
-use digits::{read_digits, write_digits};
-use rows::refusal::{DIGIT, LENGTH, SHORT};
+ghost use Rattle.std.specs.Prelude.{◌≡◌, ◌<◌, ◌^◌, Ok};
+ghost use Rattle.rows.specs.Rows.{first_row, by_row, Answers};
+ghost use Rattle.format.specs.Layout.{Layout, read_of, line_rows, written_of, buffer_after, write_rows, SameLine, WritesBack, ReadsBack};
+ghost use Rattle.format.specs.Sound.{AreTables, FieldsBack, RecordBack};
+ghost use Rattle.format.specs.Write.{BufferKept};
 
-// What writing a record gives: the line stands in the buffer, or the number of the refusal.
-#[derive(Clone, Copy)]
-pub enum Written {
-    Done,
-    Refused(u8),
+pub use line::{read_line, write_line};
+use rows::refusal::Refusal;
+
+// A format of lines of so many bytes: the fields that the bytes hold, the first row that refuses the
+// fields, and the record that they hold where none does, both ways.
+pub trait Format<const BYTES: usize>: Copy {
+    type Fields: Copy;
+
+    type Record: Copy;
+
+    ghost layout: { Self → Layout Self.Fields Self.Record };
+
+    fn fields_in(self, bytes: &[u8]) -> Self::Fields
+        ensures { result ≡ (layout self).fields_in bytes.now };
+
+    fn bytes_in(self, fields: Self::Fields) -> [u8; BYTES]
+        ensures { result ≡ (layout self).bytes_in fields };
+
+    fn first_row(self, fields: Self::Fields) -> Result<(), Refusal>
+        ensures { result ≡ first_row ((layout self).rows fields) };
+
+    fn record_of(self, fields: Self::Fields) -> Result<Self::Record, Refusal>
+        ensures held { result ≡ by_row ((layout self).record_of fields) (first_row ((layout self).rows fields)) }
+        ensures back { first_row ((layout self).rows fields) ≡ Ok tt → FieldsBack BYTES (layout self) fields };
+
+    fn fields_of(self, held: Self::Record) -> Self::Fields
+        ensures fields { result ≡ (layout self).fields_of held }
+        ensures back { RecordBack BYTES (layout self) held };
+
+    // A line's bytes fit in memory, and the fields' rows are a table.
+    ghost small: { BYTES < 2 ^ 63 };
+
+    ghost tables: { (format : Self) (fields : Self.Fields) → AreTables BYTES (layout format) fields };
 }
 
-// Reads a line of two digits for each lent byte, and gives 0; or gives the first of rows 1 and 2 that
-// fits, and no byte changes.
-pub fn read_line(line: &[u8], bytes: &mut [u8]) -> u8
-    ensures row { result ≡ first_row (form_rows (2 * length bytes.old) line.now) }
-    ensures bytes { bytes.new ≡ bytes_after line.now bytes.old }
+// The record that a line holds, or the first row that refuses it.
+// `whole`: the answer is the definition's. `same` and `back`: the record's line is the line, and writing
+// the record returns it.
+// `first`: a line is refused exactly where a row fits, by the first that does.
+pub fn read<F: Format<BYTES>, const BYTES: usize>(
+    format: F,
+    line: &[u8],
+) -> Result<F::Record, Refusal>
+    ensures whole { result ≡ read_of BYTES (F.layout format) line.now }
+    ensures same { SameLine BYTES (F.layout format) line.now result }
+    ensures back { WritesBack BYTES (F.layout format) line.now result }
+    ensures first { Answers (line_rows BYTES (F.layout format) line.now) result }
 {
-    if (line.len() % 2 != 0) | (line.len() / 2 != bytes.len()) {
-        return LENGTH;
-    }
-    if !read_digits(line, bytes) {
-        return DIGIT;
-    }
-    0
+    let mut bytes = [0; BYTES];
+    read_line(line, &mut bytes)?;
+    format.record_of(format.fields_in(&bytes))
 }
 
-// Puts the digits of a record's bytes at the start of a buffer, or leaves it alone: where it is short,
-// or where the record's own rows gave a number, and not 0.
-pub fn write_line(row: u8, bytes: &[u8], buffer: &mut [u8]) -> Written
-    ensures answer { result ≡ written_by (short_or (2 * length bytes.now) buffer.old row) }
-    ensures digits { buffer.new ≡ buffer_by (short_or (2 * length bytes.now) buffer.old row) (digits_of bytes.now) buffer.old }
+// Puts the line of a record at the start of a buffer, or leaves the buffer alone and gives the
+// first row that refuses.
+// `answer` and `bytes`: the answer and every byte of the buffer are the definitions'. `back`: reading
+// what was written returns the record. `kept`: a refusal changes no byte. `first`: as for `read`.
+pub fn write<F: Format<BYTES>, const BYTES: usize>(
+    format: F,
+    held: F::Record,
+    buffer: &mut [u8],
+) -> Result<(), Refusal>
+    ensures answer { result ≡ written_of BYTES (F.layout format) held buffer.old }
+    ensures bytes { buffer.new ≡ buffer_after BYTES (F.layout format) held buffer.old }
+    ensures back { ReadsBack BYTES (F.layout format) held buffer.new result }
+    ensures kept { BufferKept buffer.old buffer.new result }
+    ensures first { Answers (write_rows BYTES (F.layout format) held buffer.old) result }
 {
-    if buffer.len() / 2 < bytes.len() {
-        return Written::Refused(SHORT);
-    }
-    if row != 0 {
-        return Written::Refused(row);
-    }
-    write_digits(bytes, buffer);
-    Written::Done
+    let fields = format.fields_of(held);
+    let bytes = format.bytes_in(fields);
+    write_line(format.first_row(fields), &bytes, buffer)
 }

@@ -1,14 +1,12 @@
 -- What is printed for a line, ended by a newline: the number of its refusal as two digits, or the line of the record that was read.
-use Rattle.std.specs.Prelude.{ℕ, List, [], ◌∷◌, ◌++◌}
+use Rattle.std.specs.Prelude.{ℕ, List, [], ◌∷◌, ◌++◌, Result, Ok, Err}
 use Rattle.digits.specs.Digits.{digits_of}
 use Rattle.food_line.specs.Read as food
-use Rattle.food_line.specs.Write.{line_of as foodLine}
-use Rattle.food_line.specs.declared.record.Read.{Read as FoodRead}
-use Rattle.food_line.specs.declared.record.Read.TheVariants.{Whole as FoodWhole, Refused as FoodRefused}
+use Rattle.food_line.specs.Write.{line_of as food_line_of}
+use Rattle.rows.specs.Refusal.{number_of}
+use Rattle.rows.specs.declared.refusal.Refusal.{Refusal}
 use Rattle.residue_line.specs.Read as residue
-use Rattle.residue_line.specs.Write.{line_of as residueLine}
-use Rattle.residue_line.specs.declared.record.Read.{Read as ResidueRead}
-use Rattle.residue_line.specs.declared.record.Read.TheVariants.{Whole as ResidueWhole, Refused as ResidueRefused}
+use Rattle.residue_line.specs.Write.{line_of as residue_line_of}
 use Rattle.difference.specs.declared.category.Category.{Category}
 use Rattle.difference.specs.declared.category.Category.TheVariants.{Food, Residue}
 
@@ -23,23 +21,14 @@ ANSWER = 69
 abbrev pub ended : List ℕ → List ℕ
 ended text = text ++ (NEWLINE ∷ [])
 
-abbrev pub refusal : ℕ → List ℕ
-refusal number = ended (digits_of (number ∷ []))
+abbrev pub refusal_text : Refusal → List ℕ
+refusal_text refusal = ended (digits_of (number_of refusal ∷ []))
 
-abbrev pub food_by : FoodRead → List ℕ
-food_by (FoodRefused number) = refusal number
-food_by (FoodWhole r) = ended (foodLine r)
-
-abbrev pub food_answer : List ℕ → List ℕ
-food_answer line = food_by (food.read_of line)
-
-abbrev pub residue_by : ResidueRead → List ℕ
-residue_by (ResidueRefused number) = refusal number
-residue_by (ResidueWhole r) = ended (residueLine r)
-
-abbrev pub residue_answer : ℕ → List ℕ → List ℕ
-residue_answer compound line = residue_by (residue.read_of compound line)
+-- of a line that was read, by the line of its record
+abbrev pub answer_by : {Record : Type 0} → (Record → List ℕ) → Result Record Refusal → List ℕ
+answer_by line_of (Err refusal) = refusal_text refusal
+answer_by line_of (Ok r) = ended (line_of r)
 
 abbrev pub answer_of : Category → List ℕ → List ℕ
-answer_of Food line = food_answer line
-answer_of (Residue compound) line = residue_answer compound line
+answer_of Food line = answer_by food_line_of (food.read_of line)
+answer_of (Residue compound) line = answer_by residue_line_of (residue.read_of compound line)

@@ -4,27 +4,28 @@
 #![tactic(auto)]
 
 mod answer;
-mod food;
-mod residue;
 
-ghost use Rattle.std.specs.Prelude.{◌≡◌, ℕ, ◌≤◌, ◌<◌, length, get_or, take};
-ghost use Rattle.lines.specs.Answer.{ANSWER, answer_of};
+ghost use Rattle.std.specs.Prelude.{◌≡◌, ◌≤◌, eqb, take};
+ghost use Rattle.lines.specs.Answer.{ANSWER, NEWLINE as LINE_END, answer_of};
 
-use answer::{ANSWER, NEWLINE};
+use answer::{ANSWER, NEWLINE, put_line};
 use difference::category::Category;
+use food_line::food::FoodLine;
+use residue_line::residue::ResidueLine;
 
-// The descriptor of standard input.
+// The descriptor of standard input. Three programs' crates read it so: a function for the two lines would
+// want a crate of its own.
 const STDIN: i32 = 0;
 
 // What is printed for a line, put at the start of `out`, and how many bytes that are.
-fn put_answer(category: Category, line: &[u8], out: &mut [u8]) -> usize
-    requires { length out.old ≡ ANSWER }
+#[tactic(auto, unfolding(food_line::specs::Read::read_of, residue_line::specs::Read::read_of))]
+fn put_answer(category: Category, line: &[u8], out: &mut [u8; ANSWER]) -> usize
     ensures room { result ≤ ANSWER }
     ensures put { take result out.new ≡ answer_of category line.now }
 {
     match category {
-        Category::Food => food::put_food(line, out),
-        Category::Residue(compound) => residue::put_residue(compound, line, out),
+        Category::Food => put_line(FoodLine, line, out),
+        Category::Residue(compound) => put_line(ResidueLine { compound }, line, out),
     }
 }
 
@@ -34,29 +35,17 @@ fn print_answer(rt: &impl Print, category: Category, line: &[u8]) -> std::io::Re
     rt.write_all(&out[..n])
 }
 
-// The index of the first newline, or the length where there is none.
-fn newline(bytes: &[u8]) -> usize
-    ensures within { result ≤ length bytes.now }
-    ensures before { (k : ℕ) → k < result → get_or bytes.now k 0 ≡ 10 → ⊥ }
-    ensures found { result < length bytes.now → get_or bytes.now result 0 ≡ 10 }
+// Whether a byte ends a line.
+fn ends_line(b: u8) -> bool
+    ensures { result ≡ eqb b LINE_END }
 {
-    let mut i = 0;
-    while i < bytes.len() {
-        if bytes[i] == NEWLINE {
-            return i;
-        }
-        i += 1;
-    }
-    i
+    b == NEWLINE
 }
 
 // An unended last line counts if it is not empty.
 fn print_answers(rt: &impl Print, category: Category, input: &[u8]) -> std::io::Result<()> {
-    let mut at = 0;
-    while at < input.len() {
-        let n = newline(&input[at..]);
-        print_answer(rt, category, &input[at..at + n])?;
-        at += n + 1;
+    for line in input.split_inclusive(|b| ends_line(*b)) {
+        print_answer(rt, category, line.strip_suffix(&[NEWLINE]).unwrap_or(line))?;
     }
     Ok(())
 }

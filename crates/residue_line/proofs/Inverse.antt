@@ -1,18 +1,16 @@
 -- Reading and writing are inverse. Assumes nothing.
-use Prim.Native.Nat.{ℕ, zero, suc, ◌≤◌, ◌<◌}
-use mathlib.Core.Path.{◌≡◌, refl, sym, ap, ◌∙◌}
+use Prim.Native.Nat.{ℕ, ◌≤◌, ◌<◌}
+use mathlib.Core.Path.{◌≡◌, refl, ap, ◌∙◌}
 use mathlib.Core.Bool.{false}
 use mathlib.Core.List.{List, [], ◌∷◌, ◌++◌}
 use mathlib.Core.Logic.{⊎_elim}
 use native.Mathlib.Omega.{arith}
 use lib.IntN.{ℤ, pos, negsuc, nat_abs}
-use lib.ListN.{length}
 use lib.Signed.{mag}
+use Rattle.std.specs.Prelude.{Option, Some, None, Ok}
 use Rattle.rows.specs.Rows.{first_row}
-use Rattle.digits.specs.Digits.{bytes_of, digits_of}
 use Rattle.digits.specs.Numbers.{BYTE, AreBytes}
 use Rattle.digits.specs.Signed.{half, signed_bytes}
-use Rattle.digits.proofs.ByteLaws.{length_digits_of, digits_of_are, bytes_digits, digits_bytes, bytes_of_are, length_bytes_of}
 use Rattle.digits.proofs.NumberLaws.{number_back}
 use Rattle.digits.proofs.SignedLaws.{signed_back}
 use Rattle.field.specs.Refused.{LOST}
@@ -20,24 +18,20 @@ use Rattle.field.specs.Residue.{RESULT, result_row}
 use Rattle.field.proofs.DateLaws.{date}
 use Rattle.field.proofs.ResidueLaws.{FARTHEST, kind_is, compound_is, result}
 use Rattle.format.proofs.Parts.{two_then, signed_then}
-use Rattle.format.proofs.ReadLaws as form
-use Rattle.format.proofs.WriteLaws.{written_whole, done_own, done_digits}
-use Rattle.residue_line.specs.Fields.{line_length, line_bytes, fields_in, bytes_in, result_of, tag_of, log_of, record_of, fields_of}
+use Rattle.format.proofs.LayoutLaws as layout
+use Rattle.format.specs.Sound.{FieldsBack, RecordBack}
+use Rattle.residue_line.specs.Fields.{line_bytes, fields_in, bytes_in, result_of, tag_of, log_of, record_of, fields_of}
 use Rattle.residue_line.specs.bounds.Types.{Typed}
 use Rattle.residue_line.specs.Inverse.{WritesBack, ReadsBack}
-use Rattle.residue_line.specs.Read.{fields_at, line_rows, read_by, read_of}
-use Rattle.residue_line.specs.FieldRows.{field_rows}
+use Rattle.residue_line.specs.Read.{fields_at, line_rows, read_of}
+use Rattle.residue_line.specs.Residue.{residue}
 use Rattle.residue_line.specs.Write.{line_of, written_of, buffer_after}
 use Rattle.residue_line.specs.declared.fields.Fields.{Fields}
 use Rattle.residue_line.specs.declared.record.Record.{Record}
-use Rattle.residue_line.specs.declared.record.ResultLog.{ResultLog}
-use Rattle.residue_line.specs.declared.record.ResultLog.TheVariants.{Log, Lost}
-use Rattle.residue_line.specs.declared.record.Read.TheVariants.{Whole}
 use Rattle.residue_line.proofs.FieldLaws.{bytes_back}
-use Rattle.residue_line.proofs.ReadLaws.{read_whole}
 use Rattle.residue_line.proofs.RowLaws.{Clean, clean, logs}
 
--- ---- the fields of a record, and the record of fields
+-- ---- fields that were read, and the record that they hold
 
 -- a result that row 7 does not fit has its tag and its log again
 tagged_back : (tag : ℕ) (log : ℤ) (count : ℕ) → result_row tag log count ≡ false → (tag_of (result_of tag log) ≡ tag) × (log_of (result_of tag log) ≡ log)
@@ -49,61 +43,20 @@ tagged_back tag log count e =
     (λ (t : tag ≡ LOST). (rw t, rw (t, r.lost t)))
     r.tagged
 
-result_back : (r : ResultLog) → result_of (tag_of r) (log_of r) ≡ r
-unfolding result_of tag_of log_of
-result_back (Log log) = refl
-result_back Lost = refl
-
-fields_back : (given : ℕ) (f : Fields) → Clean given f → fields_of (record_of f) ≡ f
-fields_back given f c =
+fields_again : (given : ℕ) (f : Fields) → Clean given f → fields_of (record_of f) ≡ f
+fields_again given f c =
     let t = tagged_back f.tag f.result f.count c.result in
     rw (t.0, t.1)
 
-record_back : (r : Record) → record_of (fields_of r) ≡ r
-record_back r = rw (result_back r.result)
+pub fields_back : (given : ℕ) (f : Fields) → Clean given f → FieldsBack line_bytes (residue given) f
+fields_back given f c bs A n e = (fields_again given f c, ap bytes_in e ∙ bytes_back bs A n)
 
--- ---- a line that was read is written back
+-- ---- a record, and the fields that hold it
 
-pub read_is : (compound : ℕ) (line : List ℕ) (r : Record) → read_of compound line ≡ Whole r → (first_row (line_rows compound line) ≡ 0) × (r ≡ record_of (fields_at line))
-unfolding read_of
-read_is compound line r e = go (first_row (line_rows compound line)) refl e
-  where
-    go : (n : ℕ) → first_row (line_rows compound line) ≡ n → read_by n (record_of (fields_at line)) ≡ Whole r → (first_row (line_rows compound line) ≡ 0) × (r ≡ record_of (fields_at line))
-    go zero q e = (q, cc)
-    go (suc n) q e = let z : ◌≡◌ {A = ℕ} 0 1 = cc in absurd (omega arith)
-
--- what it says of a line that no row fits
-abbrev pub Good : ℕ → List ℕ → Type 0
-Good compound line = form.Good line_length line (field_rows compound (fields_at line))
-
-pub good : (compound : ℕ) (line : List ℕ) → first_row (line_rows compound line) ≡ 0 → Good compound line
-good compound line = form.good line_length line (field_rows compound (fields_at line))
-
-fields_again : (compound : ℕ) (line : List ℕ) → Good compound line → fields_of (record_of (fields_at line)) ≡ fields_at line
-fields_again compound line g = fields_back compound (fields_at line) (clean compound (fields_at line) g.rows)
-
-line_again : (compound : ℕ) (line : List ℕ) → Good compound line → line_of (record_of (fields_at line)) ≡ line
-line_again compound line g =
-    ap (λ (f : Fields). digits_of (bytes_in f)) (fields_again compound line g)
-    ∙ ap digits_of (bytes_back (bytes_of line) (bytes_of_are line g.digits) (length_bytes_of line line_bytes g.long))
-    ∙ digits_bytes line line_bytes g.long g.digits
-
--- the line of the record that was read is the line
-pub line_back : (compound : ℕ) (line : List ℕ) (r : Record) → read_of compound line ≡ Whole r → line_of r ≡ line
-line_back compound line r e = let p = read_is compound line r e in ap line_of p.1 ∙ line_again compound line (good compound line p.0)
-
--- Writing what was read returns the same line: into any buffer with room, writing is not refused, and the first 24 bytes are the line.
-pub written_again : (compound : ℕ) (line : List ℕ) → WritesBack compound line (read_of compound line)
-unfolding written_of buffer_after
-written_again compound line r e buffer h =
-    let p = read_is compound line r e in
-    let g = good compound line p.0 in
-    let same = line_back compound line r e in
-    let rows = ap (λ (q : Record). first_row (field_rows compound (fields_of q))) p.1 ∙ ap (λ (f : Fields). first_row (field_rows compound f)) (fields_again compound line g) ∙ g.rows in
-    let w = written_whole line_length buffer (field_rows compound (fields_of r)) (line_of r) (ap length same ∙ g.long) h rows in
-    (w.0, w.1 ∙ same)
-
--- ---- a record that was written is read back
+result_back : (r : Option ℤ) → result_of (tag_of r) (log_of r) ≡ r
+unfolding result_of tag_of log_of
+result_back (Some log) = refl
+result_back None = refl
 
 small : (z : ℤ) → nat_abs z ≤ FARTHEST → mag z < half 2
 small (pos n) h = omega arith
@@ -127,22 +80,44 @@ module _ (given : ℕ) (f : Fields) (c : Clean given f) where
       let comparison = signed_then f.comparison (small f.comparison (logs given f c).0) result_bytes in
       (omega arith, two_then f.year (omega (arith, d.most)) (omega (arith, d.twelve), (days, (omega arith, comparison))))
 
--- Reading what was written returns the same record, for every record that the code can hold and that no row refuses.
-read_again : (compound : ℕ) (r : Record) → Typed r → first_row (field_rows compound (fields_of r)) ≡ 0 → read_of compound (line_of r) ≡ Whole r
-read_again compound r h e =
-    let f = fields_of r in
-    let c = clean compound f e in
-    let A = clean_bytes compound f c h in
-    let l = logs compound f c in
-    let same : fields_at (line_of r) ≡ f = ap fields_in (bytes_digits (bytes_in f) A) ∙ fields_in_again f l.0 l.1 in
-    let own = form.own_row line_length (line_of r) (field_rows compound (fields_at (line_of r))) (length_digits_of (bytes_in f)) (digits_of_are (bytes_in f) A) in
-    sym (read_whole compound (line_of r) (sym (ap (λ (g : Fields). first_row (field_rows compound g)) same ∙ e) ∙ own))
-    ∙ ap (λ (g : Fields). Whole (record_of g)) same
-    ∙ ap Whole (record_back r)
+record_again : (r : Record) → record_of (fields_of r) ≡ r
+record_again r = rw (result_back r.result)
 
-pub reads_back : (compound : ℕ) (r : Record) (buffer : List ℕ) → Typed r → ReadsBack compound r (buffer_after compound r buffer) (written_of compound r buffer)
-unfolding written_of buffer_after
-reads_back compound r buffer h e =
-    let own = field_rows compound (fields_of r) in
-    ap (read_of compound) (done_digits line_length buffer own (line_of r) (length_digits_of (bytes_in (fields_of r))) e)
-    ∙ read_again compound r h (done_own line_length buffer own e)
+pub record_back : (given : ℕ) (r : Record) → Typed r → RecordBack line_bytes (residue given) r
+record_back given r h e =
+    let f = fields_of r in
+    let c = clean given f e in
+    let l = logs given f c in
+    (clean_bytes given f c h, (fields_in_again f l.0 l.1, record_again r))
+
+-- ---- lines that are read, and records that are written
+
+module _ (compound : ℕ) where
+  pub read_is : (line : List ℕ) (r : Record) → read_of compound line ≡ Ok r → (first_row (line_rows compound line) ≡ Ok tt) × (r ≡ record_of (fields_at line))
+  unfolding read_of
+  read_is = layout.read_is line_bytes (residue compound)
+
+  -- what it says of a line that no row fits
+  abbrev pub Good : List ℕ → Type 0
+  Good = layout.Good line_bytes (residue compound)
+
+  pub good : (line : List ℕ) → first_row (line_rows compound line) ≡ Ok tt → Good line
+  good = layout.good line_bytes (residue compound)
+
+  back_at : (line : List ℕ) → Good line → FieldsBack line_bytes (residue compound) (fields_at line)
+  back_at line g = fields_back compound (fields_at line) (clean compound (fields_at line) g.rows)
+
+  -- the line of the record that was read is the line
+  pub line_back : (line : List ℕ) (r : Record) → read_of compound line ≡ Ok r → line_of r ≡ line
+  unfolding read_of
+  line_back line r = layout.line_back line_bytes (residue compound) line r (back_at line)
+
+  -- Writing what was read returns the same line: into any buffer with room, writing is not refused, and the first 24 bytes are the line.
+  pub written_again : (line : List ℕ) → WritesBack compound line (read_of compound line)
+  unfolding read_of
+  written_again line = layout.written_again line_bytes (residue compound) line (back_at line)
+
+  -- Reading what was written returns the same record, for every record that the code can hold.
+  pub reads_back : (r : Record) (buffer : List ℕ) → Typed r → ReadsBack compound r (buffer_after compound r buffer) (written_of compound r buffer)
+  unfolding written_of buffer_after
+  reads_back r buffer h = layout.reads_back line_bytes (residue compound) r buffer refl (record_back compound r h)

@@ -3,6 +3,7 @@ use Prim.Native.Nat.{ℕ, ◌≤◌}
 use mathlib.Core.Path.{◌≡◌}
 use mathlib.Core.Bool.{false}
 use lib.IntN.{nat_abs}
+use Rattle.std.specs.Prelude.{Ok}
 use Rattle.rows.specs.Rows.{first_row}
 use Rattle.rows.proofs.RowsLaws.{passed}
 use Rattle.field.specs.Refused.{date_row}
@@ -19,7 +20,7 @@ pub record Clean (given : ℕ) (f : Fields) : Type 0 where
   pub log : log_row f.comparison f.tag f.result ≡ false
   pub result : result_row f.tag f.result f.count ≡ false
 
-pub clean : (given : ℕ) (f : Fields) → first_row (field_rows given f) ≡ 0 → Clean given f
+pub clean : (given : ℕ) (f : Fields) → first_row (field_rows given f) ≡ Ok tt → Clean given f
 unfolding first_row
 clean given f e =
     let k = passed _ _ _ e in

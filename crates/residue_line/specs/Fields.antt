@@ -1,14 +1,12 @@
 -- Document 02, request One, the fields of a line: 12 bytes as numbers, and these numbers as a record, both ways. High bytes come first; signed
 -- numbers are in two's complement.
-use Rattle.std.specs.Prelude.{ℕ, cond, List, [], ◌∷◌, ◌++◌, eqb, ℤ, pos}
+use Rattle.std.specs.Prelude.{ℕ, cond, List, [], ◌∷◌, ◌++◌, eqb, ℤ, pos, Option, Some, None}
 use Rattle.digits.specs.Numbers.{one_at, two_at, number_bytes}
 use Rattle.digits.specs.Signed.{signed_two_at, signed_bytes}
 use Rattle.field.specs.Refused.{LOST}
 use Rattle.field.specs.Residue.{RESULT}
 use Rattle.residue_line.specs.declared.fields.Fields.{Fields}
 use Rattle.residue_line.specs.declared.record.Record.{Record}
-use Rattle.residue_line.specs.declared.record.ResultLog.{ResultLog}
-use Rattle.residue_line.specs.declared.record.ResultLog.TheVariants.{Log, Lost}
 
 -- a line is 24 digits, 12 bytes
 abbrev pub line_length : ℕ
@@ -38,17 +36,17 @@ bytes_in f =
     ++ ((f.month ∷ f.days ∷ f.compound ∷ signed_bytes 2 f.comparison) ++ ((f.tag ∷ signed_bytes 2 f.result) ++ (f.count ∷ [])))
 
 -- a result by its tag: 00 a log, 02 lost
-unfoldable pub result_of : ℕ → ℤ → ResultLog
-result_of tag log = cond (eqb tag RESULT) (Log log) Lost
+unfoldable pub result_of : ℕ → ℤ → Option ℤ
+result_of tag log = cond (eqb tag RESULT) (Some log) None
 
 -- a lost result is written as tag 02 and zero
-unfoldable pub tag_of : ResultLog → ℕ
-tag_of (Log log) = RESULT
-tag_of Lost = LOST
+unfoldable pub tag_of : Option ℤ → ℕ
+tag_of (Some log) = RESULT
+tag_of None = LOST
 
-unfoldable pub log_of : ResultLog → ℤ
-log_of (Log log) = log
-log_of Lost = pos 0
+unfoldable pub log_of : Option ℤ → ℤ
+log_of (Some log) = log
+log_of None = pos 0
 
 abbrev pub record_of : Fields → Record
 record_of f = record {

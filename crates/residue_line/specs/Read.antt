@@ -1,15 +1,13 @@
 -- What reading a line gives, for the compound given: document 02, request One, over document 01's "Refused".
-use Rattle.std.specs.Prelude.{ℕ, List, ◌++◌}
-use Rattle.rows.specs.Rows.{Row, first_row, Given, no_row, a_row}
+use Rattle.std.specs.Prelude.{ℕ, List, Result}
+use Rattle.rows.specs.declared.Row.{Row}
+use Rattle.rows.specs.declared.refusal.Refusal.{Refusal}
 use Rattle.digits.specs.Digits.{bytes_of}
-use Rattle.format.specs.Answer.{by_row}
-use Rattle.format.specs.Read.{form_rows}
-use Rattle.residue_line.specs.Fields.{line_length, fields_in, record_of}
-use Rattle.residue_line.specs.FieldRows.{field_rows}
+use Rattle.format.specs.Layout as layout
+use Rattle.residue_line.specs.Fields.{line_bytes, fields_in}
+use Rattle.residue_line.specs.Residue.{residue}
 use Rattle.residue_line.specs.declared.fields.Fields.{Fields}
 use Rattle.residue_line.specs.declared.record.Record.{Record}
-use Rattle.residue_line.specs.declared.record.Read.{Read}
-use Rattle.residue_line.specs.declared.record.Read.TheVariants.{Whole, Refused}
 
 -- the fields of a line
 abbrev pub fields_at : List ℕ → Fields
@@ -17,22 +15,8 @@ fields_at line = fields_in (bytes_of line)
 
 -- rows 1 and 2 come first, then the fields'
 abbrev pub line_rows : ℕ → List ℕ → List Row
-line_rows compound line = form_rows line_length line ++ field_rows compound (fields_at line)
+line_rows compound = layout.line_rows line_bytes (residue compound)
 
--- the record where no row fits, else the row's number
-unfoldable pub read_by : ℕ → Record → Read
-read_by row r = by_row (Whole r) Refused row
-
-unfoldable pub read_of : ℕ → List ℕ → Read
-unfolding read_by first_row
-read_of compound line = read_by (first_row (line_rows compound line)) (record_of (fields_at line))
-
--- what an answer gives of the table: no row for a record that was read, else the refusal's
-abbrev pub read_row : Read → Given
-read_row (Whole r) = no_row
-read_row (Refused n) = a_row n
-
--- the number of an answer, 0 for a record that was read
-abbrev pub refusal_of : Read → ℕ
-refusal_of (Whole r) = 0
-refusal_of (Refused n) = n
+-- the record where no row fits, else the refusal
+unfoldable pub read_of : ℕ → List ℕ → Result Record Refusal
+read_of compound line = layout.read_of line_bytes (residue compound) line

@@ -1,13 +1,7 @@
 // What a residue line holds.
 
-// The result's log, in thousandths, or lost.
-#[derive(Clone, Copy)]
-pub enum ResultLog {
-    Log(i16),
-    Lost,
-}
-
-// The record of one check sample of a compound.
+// The record of one check sample of a compound. Its kind and compound are bytes, and no enums: `write`
+// takes a record of any, and refuses it by rows 3 and 14.
 #[derive(Clone, Copy)]
 pub struct Record {
     pub kind: u8,
@@ -16,13 +10,7 @@ pub struct Record {
     pub days: u8,
     pub compound: u8,
     pub comparison: i16,
-    pub result: ResultLog,
+    // The result's log, in thousandths; none where it is lost.
+    pub result: Option<i16>,
     pub count: u8,
-}
-
-// What reading a line gives: the record, or the number of the refusal.
-#[derive(Clone, Copy)]
-pub enum Read {
-    Whole(Record),
-    Refused(u8),
 }

@@ -1,11 +1,12 @@
 -- What a record of food chemistry that was read is to the unit. Assumes nothing.
-use Prim.Native.Nat.{ℕ, zero, suc, ◌≤◌, ◌<◌}
+use Prim.Native.Nat.{ℕ, ◌≤◌}
 use mathlib.Core.Path.{◌≡◌, refl, sym, ap, subst, ◌∙◌}
 use mathlib.Core.Bool.{Bool, false, ◌||◌, or-false}
 use mathlib.Core.List.{List}
-use native.Mathlib.Omega.{arith}
 use borrow.Author.Tests.{eqb-true, not-false}
-use lib.Dec.{eqb, lit≤, lit<}
+use lib.Dec.{eqb, lit≤}
+use Rattle.difference.specs.declared.analyte.Analyte.{Analyte}
+use Rattle.difference.specs.declared.analyte.Analyte.TheVariants.{Moisture, Protein, Fat, Salt}
 use Rattle.difference.specs.Standardize.{bad_mean}
 use Rattle.difference.specs.bounds.Means.{GoodMean}
 use Rattle.difference.specs.declared.difference.Difference.{Difference}
@@ -14,74 +15,75 @@ use Rattle.difference.proofs.MeanLaws.{mean_rows, good_mean}
 use Rattle.laws.proofs.Bools.{or_neither}
 use Rattle.food_line.specs.Fields.{record_of}
 use Rattle.food_line.specs.Amount.{amount_of}
-use Rattle.food_line.specs.Read.{fields_at, line_rows, read_by, read_of, refusal_of}
+use Rattle.food_line.specs.Read.{fields_at, line_rows, read_of}
 use Rattle.field.specs.Refused.{MOST, MAINTENANCE, STUDY, kind_row, mean_row, product_row, class_of}
 use Rattle.food_line.specs.declared.fields.Fields.{Fields}
 use Rattle.food_line.specs.declared.record.Record.{Record}
 use Rattle.field.specs.declared.Means.{Means}
-use Rattle.food_line.specs.declared.record.Amount.{Amount}
-use Rattle.food_line.specs.declared.record.Amount.TheVariants.{Hundredths, Unknown}
-use Rattle.food_line.specs.declared.record.Read.TheVariants.{Whole, Refused as Unread}
 use Rattle.food_line.specs.declared.record.Reading.{Reading}
 use Rattle.food_line.proofs.AmountLaws.{amount_small}
 use Rattle.food_line.proofs.Inverse.{good, read_is}
 use Rattle.food_line.proofs.RowLaws.{Clean, clean}
-use Rattle.rows.specs.Rows.{first_row}
+use Rattle.std.specs.Prelude.{Option, Some, None, Ok, Err}
+use Rattle.rows.specs.Rows.{first_row, by_row}
+use Rattle.rows.specs.declared.refusal.Refusal.{Refusal}
+use Rattle.seen.specs.Sight.{sight_in}
+use Rattle.rows.proofs.AnswerLaws.{refused_too, whole_too}
 use Rattle.seen.specs.Rules.{food_chemistry}
 use Rattle.seen.specs.Food.{hundredths_in, difference_for, difference_in, answer_for, by_analyte, seen_with, seen_of, seen_of_any, KindIs}
 
 -- no row fits the fields of a record that was read
-read_clean : (line : List ℕ) (r : Record) → read_of line ≡ Whole r → (r ≡ record_of (fields_at line)) × Clean (fields_at line)
+read_clean : (line : List ℕ) (r : Record) → read_of line ≡ Ok r → (r ≡ record_of (fields_at line)) × Clean (fields_at line)
 read_clean line r e = let p = read_is line r e in (p.1, clean (fields_at line) (good line p.0).rows)
 
 -- ---- its differences
 
 record GoodMeans (class : ℕ) (m : Means) : Type 0 where
-  moisture : GoodMean class 0 m.moisture
-  protein : GoodMean class 1 m.protein
-  fat : GoodMean class 2 m.fat
-  salt : GoodMean class 3 m.salt
+  moisture : GoodMean class Moisture m.moisture
+  protein : GoodMean class Protein m.protein
+  fat : GoodMean class Fat m.fat
+  salt : GoodMean class Salt m.salt
 
 means : (product : ℕ) (m : Means) → mean_row product m ≡ false → GoodMeans (class_of product) m
 means product m e =
     let class = class_of product in
-    let moisture = bad_mean class 0 m.moisture in
-    let protein = bad_mean class 1 m.protein in
-    let fat = bad_mean class 2 m.fat in
-    let a = or_neither (moisture || protein || fat) (bad_mean class 3 m.salt) (sym (mean_rows product m) ∙ e) in
+    let moisture = bad_mean class Moisture m.moisture in
+    let protein = bad_mean class Protein m.protein in
+    let fat = bad_mean class Fat m.fat in
+    let a = or_neither (moisture || protein || fat) (bad_mean class Salt m.salt) (sym (mean_rows product m) ∙ e) in
     let b = or_neither (moisture || protein) fat a.0 in
     let c = or_neither moisture protein b.0 in
     record {
-      moisture = good_mean class 0 m.moisture c.0;
-      protein = good_mean class 1 m.protein c.1;
-      fat = good_mean class 2 m.fat b.1;
-      salt = good_mean class 3 m.salt a.1;
+      moisture = good_mean class Moisture m.moisture c.0;
+      protein = good_mean class Protein m.protein c.1;
+      fat = good_mean class Fat m.fat b.1;
+      salt = good_mean class Salt m.salt a.1;
     }
 
 hundredths_small : (x : Reading) → hundredths_in (amount_of x) ≤ MOST
 hundredths_small x = go (amount_of x) refl
   where
-    go : (a : Amount) → amount_of x ≡ a → hundredths_in a ≤ MOST
-    go (Hundredths n) e = amount_small x n e
-    go Unknown e = lit≤ tt
+    go : (a : Option ℕ) → amount_of x ≡ a → hundredths_in a ≤ MOST
+    go (Some n) e = amount_small x n e
+    go None e = lit≤ tt
 
 -- one that a valid line can have is not refused
-found : (product analyte mean : ℕ) (x : Reading) → product_row product ≡ false → analyte < 4 → GoodMean (class_of product) analyte mean
+found : (product : ℕ) (analyte : Analyte) (mean : ℕ) (x : Reading) → product_row product ≡ false → GoodMean (class_of product) analyte mean
     → answer_for product analyte mean x ≡ difference_for product analyte mean x
-found product analyte mean x p a g = ap difference_in (given product analyte mean (hundredths_in (amount_of x)) p a g (hundredths_small x))
+found product analyte mean x p g = ap difference_in (given product analyte mean (hundredths_in (amount_of x)) p g (hundredths_small x))
 
 all_found : (f : Fields) → Clean f → by_analyte answer_for (record_of f) ≡ by_analyte difference_for (record_of f)
 all_found f c =
     let r = record_of f in
     let m = means f.product f.means c.mean in
     rw (
-      found r.product 0 r.means.moisture r.readings.moisture c.product (lit< tt) m.moisture,
-      found r.product 1 r.means.protein r.readings.protein c.product (lit< tt) m.protein,
-      found r.product 2 r.means.fat r.readings.fat c.product (lit< tt) m.fat,
-      found r.product 3 r.means.salt r.readings.salt c.product (lit< tt) m.salt,
+      found r.product Moisture r.means.moisture r.readings.moisture c.product m.moisture,
+      found r.product Protein r.means.protein r.readings.protein c.product m.protein,
+      found r.product Fat r.means.fat r.readings.fat c.product m.fat,
+      found r.product Salt r.means.salt r.readings.salt c.product m.salt,
     )
 
-pub never_refused : (line : List ℕ) (r : Record) → read_of line ≡ Whole r → seen_of_any r ≡ seen_of r
+pub never_refused : (line : List ℕ) (r : Record) → read_of line ≡ Ok r → seen_of_any r ≡ seen_of r
 never_refused line r e =
     let p = read_clean line r e in
     ap (λ (ds : List Difference). seen_with ds r) (subst (λ (x : Record). by_analyte answer_for x ≡ by_analyte difference_for x) (sym p.0) (all_found (fields_at line) p.1))
@@ -100,15 +102,17 @@ kind_is line r e =
     let p = read_clean line r e in
     (other_kind r.kind (subst (λ (x : Record). kind_row x.kind ≡ false) (sym p.0) p.1.kind), maintenance_alone r.kind)
 
--- ---- what reading says of the rows
+-- ---- what reading says of the sight
 
-pub refused_is : (line : List ℕ) (n : ℕ) → read_of line ≡ Unread n → (first_row (line_rows line) ≡ n) × (n ≡ 0 → ⊥)
-unfolding read_by read_of
-refused_is line n e = go (first_row (line_rows line)) refl e
-  where
-    go : (k : ℕ) → first_row (line_rows line) ≡ k → read_by k (record_of (fields_at line)) ≡ Unread n → (first_row (line_rows line) ≡ n) × (n ≡ 0 → ⊥)
-    go zero q e = absurd (let z : ◌≡◌ {A = ℕ} 0 1 = cc in omega arith)
-    go (suc k) q e = let same : suc k ≡ n = ap refusal_of e in (q ∙ same, λ z. omega (arith, same, z))
+pub unread : (line : List ℕ) (n : Refusal) → Err n ≡ read_of line → Err n ≡ sight_in food_chemistry line
+unfolding read_of sight_in
+unread line n e = refused_too (record_of (fields_at line)) (food_chemistry.seen line) (first_row (line_rows line)) n e
 
-pub seen_is : (line : List ℕ) (r : Record) → read_of line ≡ Whole r → (first_row (line_rows line) ≡ 0) × (seen_of r ≡ food_chemistry.seen line)
-seen_is line r e = let p = read_is line r e in (p.0, ap seen_of p.1)
+pub read : (line : List ℕ) (r : Record) → Ok r ≡ read_of line → Ok (seen_of r) ≡ sight_in food_chemistry line
+unfolding read_of sight_in
+read line r e = whole_too (record_of (fields_at line)) seen_of (first_row (line_rows line)) r e
+
+-- a line that no row refuses reads as the record of its fields
+pub reads : (line : List ℕ) → first_row (line_rows line) ≡ Ok tt → read_of line ≡ Ok (record_of (fields_at line))
+unfolding read_of
+reads line z = ap (by_row (record_of (fields_at line))) z

@@ -1,25 +1,28 @@
--- What reading a residue line says of its rows. Assumes nothing.
-use Prim.Native.Nat.{ℕ, zero, suc}
-use mathlib.Core.Path.{◌≡◌, refl, ap, ◌∙◌}
+-- What reading a residue line says of the sight. Assumes nothing.
+use Prim.Native.Nat.{ℕ}
+use mathlib.Core.Path.{◌≡◌, ap}
 use mathlib.Core.List.{List}
-use native.Mathlib.Omega.{arith}
+use Rattle.std.specs.Prelude.{Ok, Err}
 use Rattle.residue_line.specs.Fields.{record_of}
-use Rattle.residue_line.specs.Read.{fields_at, line_rows, read_by, read_of, refusal_of}
+use Rattle.residue_line.specs.Read.{fields_at, line_rows, read_of}
 use Rattle.residue_line.specs.declared.record.Record.{Record}
-use Rattle.residue_line.specs.declared.record.Read.TheVariants.{Whole, Refused as Unread}
-use Rattle.residue_line.proofs.Inverse.{read_is}
-use Rattle.rows.specs.Rows.{first_row}
+use Rattle.rows.specs.Rows.{first_row, by_row}
+use Rattle.rows.specs.declared.refusal.Refusal.{Refusal}
 use Rattle.seen.specs.Residue.{seen_of}
 use Rattle.seen.specs.Rules.{residues_of}
+use Rattle.seen.specs.Sight.{sight_in}
+use Rattle.rows.proofs.AnswerLaws.{refused_too, whole_too}
 
-module _ (compound : ℕ) where
-  pub refused_is : (line : List ℕ) (n : ℕ) → read_of compound line ≡ Unread n → (first_row (line_rows compound line) ≡ n) × (n ≡ 0 → ⊥)
-  unfolding read_by read_of
-  refused_is line n e = go (first_row (line_rows compound line)) refl e
-    where
-      go : (k : ℕ) → first_row (line_rows compound line) ≡ k → read_by k (record_of (fields_at line)) ≡ Unread n → (first_row (line_rows compound line) ≡ n) × (n ≡ 0 → ⊥)
-      go zero q e = absurd (let z : ◌≡◌ {A = ℕ} 0 1 = cc in omega arith)
-      go (suc k) q e = let same : suc k ≡ n = ap refusal_of e in (q ∙ same, λ z. omega (arith, same, z))
+module _ (compound : ℕ) (line : List ℕ) where
+  pub unread : (n : Refusal) → Err n ≡ read_of compound line → Err n ≡ sight_in (residues_of compound) line
+  unfolding read_of sight_in
+  unread n e = refused_too (record_of (fields_at line)) ((residues_of compound).seen line) (first_row (line_rows compound line)) n e
 
-  pub seen_is : (line : List ℕ) (r : Record) → read_of compound line ≡ Whole r → (first_row (line_rows compound line) ≡ 0) × (seen_of r ≡ (residues_of compound).seen line)
-  seen_is line r e = let p = read_is compound line r e in (p.0, ap seen_of p.1)
+  pub read : (r : Record) → Ok r ≡ read_of compound line → Ok (seen_of r) ≡ sight_in (residues_of compound) line
+  unfolding read_of sight_in
+  read r e = whole_too (record_of (fields_at line)) seen_of (first_row (line_rows compound line)) r e
+
+  -- a line that no row refuses reads as the record of its fields
+  pub reads : first_row (line_rows compound line) ≡ Ok tt → read_of compound line ≡ Ok (record_of (fields_at line))
+  unfolding read_of
+  reads z = ap (by_row (record_of (fields_at line))) z

@@ -9,7 +9,7 @@ use Rattle.food_line.specs.Fields as food_fields
 use Rattle.food_line.specs.Read as food_read
 use Rattle.residue_line.specs.Fields as residue_fields
 use Rattle.residue_line.specs.Read as residue_read
-use Rattle.rows.specs.Rows.{Row}
+use Rattle.rows.specs.declared.Row.{Row}
 use Rattle.seen.specs.Food as food_seen
 use Rattle.seen.specs.Residue as residue_seen
 use Rattle.seen.specs.declared.Seen.{Seen}

@@ -1,20 +1,15 @@
 -- `see_food` meets its contract, by what `read` found.
-use Rattle.std.proofs.Common.{sym, ap, ◌∙◌}
-use Rattle.food_line.specs.Read.{refusal_of}
-use Rattle.seen.specs.Rules.{food_chemistry}
-use Rattle.seen.proofs.FoodLaws.{refused_is, seen_is}
-use Rattle.seen.proofs.SightLaws.{unread_sight, whole_sight}
+use Rattle.std.proofs.Common.{sym, ap, ◌∙◌, Ok}
+use Rattle.std.proofs.lemmas.Result.{err_from_is_err_and}
+use Rattle.seen.proofs.FoodLaws.{read, unread}
 use Rattle.seen.proofs.food.see_food.Goals as goal
 
-pub returns-in_default : goal.returns-in_default
-returns-in_default c =
-    let line = c.args.line.now in
-    let p = refused_is line _ (sym c.in_default.ensures.whole) in
-    unread_sight food_chemistry line _ (c.refusal_of.ensures ∙ ap refusal_of c.in_default.is) c.see_nothing.ensures p.0 p.1
+pub returns-in_err-record : goal.returns-in_err-record
+returns-in_err-record c =
+    let p = err_from_is_err_and c.from_residual.result c.from_residual.ensures.1 in
+    rw (p.1, p.2) (unread c.args.line.now c.in_err-record.field-0.0 c.in_err-record.ensures.whole)
 
 pub returns : goal.returns
 returns c =
     let line = c.args.line.now in
-    let e = sym c.in-Whole.ensures.whole in
-    let p = seen_is line _ e in
-    whole_sight food_chemistry line (c.see_record.ensures.read line e ∙ p.1) p.0
+    ap Ok (c.see_record.ensures.read line (sym c.in_ok-record.ensures.whole)) ∙ read line c.in_ok-record.record c.in_ok-record.ensures.whole

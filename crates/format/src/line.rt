@@ -1,0 +1,43 @@
+// The digits of a line to bytes and back, with rows 1, 2 and 13 of the refusals.
+
+ghost use Rattle.std.specs.Prelude.{◌≡◌, ◌*◌, length};
+ghost use Rattle.rows.specs.Rows.{first_row};
+ghost use Rattle.digits.specs.Digits.{digits_of};
+ghost use Rattle.digits.specs.Slices.{bytes_after};
+ghost use Rattle.format.specs.Read.{form_rows};
+ghost use Rattle.format.specs.Write.{short_or, buffer_by};
+
+use digits::{read_digits, write_digits};
+use rows::refusal::Refusal;
+
+// Reads a line of two digits for each lent byte; or gives the first of rows 1 and 2 that fits, and no
+// byte changes.
+#[tactic(auto, unfolding(digits::specs::Slices::readable, digits::specs::Slices::bytes_after, rows::specs::Rows::first_row))]
+#[inline(always)]
+pub fn read_line(line: &[u8], bytes: &mut [u8]) -> Result<(), Refusal>
+    ensures row { result ≡ first_row (form_rows (2 * length bytes.old) line.now) }
+    ensures bytes { bytes.new ≡ bytes_after line.now bytes.old }
+{
+    if (line.len() % 2 != 0) | (line.len() / 2 != bytes.len()) {
+        return Err(Refusal::Length);
+    }
+    if !read_digits(line, bytes) {
+        return Err(Refusal::Digit);
+    }
+    Ok(())
+}
+
+// Puts the digits of a record's bytes at the start of a buffer, or leaves it alone: where it is short,
+// or where the record's own rows refuse.
+#[tactic(auto, unfolding(crate::specs::Write::buffer_by, digits::specs::Slices::has_room, digits::specs::Slices::digits_after), using(digits::proofs::ByteLaws::length_digits_of))]
+pub fn write_line(row: Result<(), Refusal>, bytes: &[u8], buffer: &mut [u8]) -> Result<(), Refusal>
+    ensures answer { result ≡ short_or (2 * length bytes.now) buffer.old row }
+    ensures digits { buffer.new ≡ buffer_by (short_or (2 * length bytes.now) buffer.old row) (digits_of bytes.now) buffer.old }
+{
+    if buffer.len() / 2 < bytes.len() {
+        return Err(Refusal::Short);
+    }
+    row?;
+    write_digits(bytes, buffer);
+    Ok(())
+}
