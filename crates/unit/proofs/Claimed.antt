@@ -20,7 +20,7 @@ use Rattle.unit.specs.Since.{admits, EndsAdmitted, Since, SinceIs, YearsNeverFal
 use Rattle.unit.specs.Status.{reports_of, status_by, status_of}
 use Rattle.unit.specs.Stretch.{no_samples, any_over, chart_at}
 use Rattle.unit.specs.Take.{no_misses, new_of, taken_in}
-use Rattle.unit.specs.declared.Unit as U
+use Rattle.unit.specs.declared.Contents as U
 use Rattle.reply.specs.declared.report.ChartReport.{ChartReport}
 use Rattle.unit.proofs.GoodLaws.{rules_sound}
 use Rattle.unit.proofs.EveryLine.{step_kept, next}
@@ -32,7 +32,7 @@ use Rattle.unit.proofs.Within.{after_in, history_in, after_in_lem, history_in_le
 
 -- ---- what the status shows
 
-module _ (g : Rules) (sound : Sound g) (u : U.Unit) (h : List Step) (K : Kept g u h) where
+module _ (g : Rules) (sound : Sound g) (u : U.Contents) (h : List Step) (K : Kept g u h) where
   abbrev c : Constants
   c = g.constants
 
@@ -83,12 +83,12 @@ module _ (g : Rules) (sound : Sound g) (u : U.Unit) (h : List Step) (K : Kept g 
 -- ---- over the whole list
 
 module _ (g : Rules) (sound : Sound g) where
-  kept_after : (u : U.Unit) (h : List Step) (ls : List (List ℕ)) → Kept g u h → Kept g (after_in g u ls) (since_from h (history_in g u ls))
+  kept_after : (u : U.Contents) (h : List Step) (ls : List (List ℕ)) → Kept g u h → Kept g (after_in g u ls) (since_from h (history_in g u ls))
   kept_after u h [] K = K
   kept_after u h (l ∷ ls) K = kept_after (taken_in g u l).unit (next h l (taken_in g u l).event) ls (step_kept g sound u h l K)
 
   -- from a unit that has no sample, no miss and no counts, whatever its stage
-  kept_list : (u : U.Unit) → u.stretch ≡ no_samples → u.misses ≡ no_misses → u.latest ≡ no_counts → (ls : List (List ℕ)) → Kept g (after_in g u ls) (since (history_in g u ls))
+  kept_list : (u : U.Contents) → u.stretch ≡ no_samples → u.misses ≡ no_misses → u.latest ≡ no_counts → (ls : List (List ℕ)) → Kept g (after_in g u ls) (since (history_in g u ls))
   kept_list u s m n ls = kept_after u [] ls (fresh g u s m n)
 
 -- what a new unit of a category keeps of a list
@@ -97,11 +97,11 @@ kept_new k ls =
     let u = new_of k in
     rw (after_in_lem u ls, history_in_lem u ls) (kept_list (rules_of k) (rules_sound k) u refl refl refl ls)
 
-pub claim_holds : (k : Category) (ls : List (List ℕ)) (u : U.Unit) → replay k ls ≡ u → ClaimOf k ls (status_of u)
+pub claim_holds : (k : Category) (ls : List (List ℕ)) (u : U.Contents) → replay k ls ≡ u → ClaimOf k ls (status_of u)
 claim_holds k ls u e =
-    let own : u.category ≡ k = ap (λ (v : U.Unit). v.category) (sym e) ∙ category_after (new_of k) ls in
+    let own : u.category ≡ k = ap (λ (v : U.Contents). v.category) (sym e) ∙ category_after (new_of k) ls in
     subst (λ (j : Category). ClaimIn (rules_of k) (since (history k ls)) (status_by (rules_of j).constants u)) (sym own)
-    (claim_in (rules_of k) (rules_sound k) u (since (history k ls)) (subst (λ (v : U.Unit). Kept (rules_of k) v (since (history k ls))) e (kept_new k ls)))
+    (claim_in (rules_of k) (rules_sound k) u (since (history k ls)) (subst (λ (v : U.Contents). Kept (rules_of k) v (since (history k ls))) e (kept_new k ls)))
 
 pub years_never_fall : YearsNeverFall
 years_never_fall k ls = (kept_new k ls).ordered.order

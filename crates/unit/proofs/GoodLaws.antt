@@ -1,9 +1,7 @@
 -- Every category has what the unit needs of it. Assumes nothing.
-use Prim.Native.Nat.{◌≤◌}
-use mathlib.Core.Path.{◌≡◌, refl, sym, ◌∙◌, subst}
-use Rattle.difference.specs.Contribution.{ANALYTES, constants_of}
+use mathlib.Core.Path.{◌≡◌, refl}
+use Rattle.difference.specs.Contribution.{constants_of}
 use Rattle.difference.specs.declared.category.Category.{Category}
-use Rattle.difference.specs.declared.constants.Constants.{Constants}
 use Rattle.difference.specs.declared.category.Category.TheVariants.{Food, Residue}
 use Rattle.seen.specs.Rules.{rules_of}
 use Rattle.unit.proofs.FoodLaws.{food_sound}
@@ -18,6 +16,3 @@ rules_sound (Residue compound) = residue_sound compound
 pub constants_are : (k : Category) → constants_of k ≡ (rules_of k).constants
 constants_are Food = refl
 constants_are (Residue compound) = refl
-
-pub few_analytes : (k : Category) (c : Constants) → c ≡ constants_of k → c.analytes ≤ ANALYTES
-few_analytes k c e = subst (λ (d : Constants). d.analytes ≤ ANALYTES) (sym (e ∙ constants_are k)) (rules_sound k).few

@@ -2,10 +2,10 @@
 -- exactly where a ground stands. Kept by a miss and by a sample, and started anew by admission. Assumes nothing.
 use Prim.Native.Nat.{ℕ, ◌*◌, ◌-◌, ◌≤◌, ◌<◌}
 use mathlib.Core.Path.{◌≡◌, refl, sym, ap, ap₂, ◌∙◌}
-use mathlib.Core.Bool.{Bool, true, false, cond, not, ◌&&◌, ◌||◌, or-false, or-true, or_assoc}
+use mathlib.Core.Bool.{Bool, true, false, cond, not, ◌&&◌, ◌||◌, or-false, or-true, or_assoc, false≢true}
 use mathlib.Core.List.{List, [], ◌∷◌, ◌++◌, append-nil, append_assoc}
 use native.Mathlib.Omega.{arith}
-use borrow.Author.Tests.{ltb-false, eqb-true, not-false}
+use borrow.Author.Tests.{ltb-false, not-false}
 use lib.Dec.{eqb}
 use lib.IntN.{ℤ, pos}
 use lib.Signed.{◌≤ℤ◌}
@@ -29,12 +29,15 @@ use Rattle.difference.specs.Contribution.{CHARTS}
 use Rattle.unit.specs.Charts.{charts_in, contribution_to, is_over, limit}
 use Rattle.unit.specs.Claim.{Step, is_accepted, opens, opened_in, is_misidentification, misidentified_in, entry_by, entry_of, entry_in, entries_of}
 use Rattle.unit.specs.Stretch.{no_samples, sampled_of, chart_at, any_over}
-use Rattle.unit.specs.Take.{ACCREDITED, PROBATION, no_misses, taken_as, missed_by, latest_after, sample_by}
+use Rattle.unit.specs.Take.{no_misses, taken_as, missed_by, latest_after, sample_by}
 use Rattle.unit.specs.bounds.Numbers.{GoodSeen}
-use Rattle.unit.specs.declared.Unit as U
+use Rattle.unit.specs.declared.Contents as U
 use Rattle.unit.specs.declared.Misses.{Misses}
 use Rattle.unit.specs.declared.chart.Chart.{Chart}
 use Rattle.reply.specs.Event.{event_byte}
+use Rattle.reply.specs.Stage.{is_accredited}
+use Rattle.reply.specs.declared.stage.Stage.{Stage}
+use Rattle.reply.specs.declared.stage.Stage.TheVariants.{Applicant, Second, Accredited, Probation, Closed}
 use Rattle.reply.specs.declared.event.Event.{Event}
 use Rattle.reply.specs.declared.event.Event.TheVariants.{Sample, Missed as MissedLine, ByCharts, ByMisses, ByMisidentifications}
 use Rattle.seen.specs.declared.Seen.{Seen}
@@ -44,10 +47,10 @@ use Rattle.unit.proofs.Taking.{Open}
 use Rattle.unit.proofs.View.{view, empty_at, moves, low}
 
 -- a ground stands
-abbrev pub ground : Constants → U.Unit → Bool
+abbrev pub ground : Constants → U.Contents → Bool
 ground c u = u.misses.opened || is_broken u.latest || any_over c u.stretch.charts
 
-pub record Kept (g : Rules) (u : U.Unit) (h : List Step) : Type 0 where
+pub record Kept (g : Rules) (u : U.Contents) (h : List Step) : Type 0 where
   pub charted : G.Charted (charts_in g.constants) (limit g.constants) (entries_of g h) (view u.stretch)
   pub room : length u.stretch.charts ≡ CHARTS
   pub missed_kept : Missed (misses (entries_of g h)) u.misses.last u.misses.opened
@@ -55,7 +58,7 @@ pub record Kept (g : Rules) (u : U.Unit) (h : List Step) : Type 0 where
   pub named : misidentified_in h ≡ is_broken u.latest
   pub ordered : Ordered (years (entries_of g h)) u.stretch.year
   pub opened : opened_in h ≡ ground g.constants u
-  pub calm : u.stage ≡ ACCREDITED → ground g.constants u ≡ false
+  pub calm : u.stage ≡ Accredited → ground g.constants u ≡ false
   pub year : 12 * u.stretch.year ≤ u.month - 1
   pub miss : u.misses.last ≤ u.month
 
@@ -68,6 +71,9 @@ none_over c =
     none_any (charts_in c) (λ (n : ℕ). is_over c n (chart_at no_samples.charts n)) (λ n h. ap (is_over c n) (empty_at n) ∙ not_over (limit c n) (low c n h))
 
 -- ---- one more step
+
+abbrev pub step : List ℕ → Event → Step
+step line e = record { line = line; event = e }
 
 opened_more : (h : List Step) (x : Step) → opened_in (h ++ x ∷ []) ≡ (opened_in h || opens x.event)
 opened_more = with_one_more ◌||◌ false (λ b. refl) or-false or_assoc (λ (x : Step). opens x.event) opened_in refl (λ x h. refl)
@@ -99,8 +105,8 @@ module _ (g : Rules) where
   one_entry h x a e = entries_more h x ∙ ap (λ (es : List Entry). entries_of g h ++ es) e
 
   -- a step that leaves no entry and opens nothing, and leaves charts, misses and counts alone
-  pub idle : (u v : U.Unit) (h : List Step) (x : Step) → entry_in g x ≡ [] → opens x.event ≡ false → v.stretch ≡ u.stretch → v.misses ≡ u.misses
-      → v.latest ≡ u.latest → (v.stage ≡ ACCREDITED → u.stage ≡ ACCREDITED) → u.month ≤ v.month → Kept g u h → Kept g v (h ++ x ∷ [])
+  pub idle : (u v : U.Contents) (h : List Step) (x : Step) → entry_in g x ≡ [] → opens x.event ≡ false → v.stretch ≡ u.stretch → v.misses ≡ u.misses
+      → v.latest ≡ u.latest → (v.stage ≡ Accredited → u.stage ≡ Accredited) → u.month ≤ v.month → Kept g u h → Kept g v (h ++ x ∷ [])
   idle u v h x e o s m n a l k = record {
     charted = rw (no_entry h x e, s) k.charted;
     room = rw s k.room;
@@ -119,7 +125,7 @@ module _ (g : Rules) where
 
   -- ---- admission starts anew
 
-  pub fresh : (u : U.Unit) → u.stretch ≡ no_samples → u.misses ≡ no_misses → u.latest ≡ no_counts → Kept g u []
+  pub fresh : (u : U.Contents) → u.stretch ≡ no_samples → u.misses ≡ no_misses → u.latest ≡ no_counts → Kept g u []
   fresh u s m n = record {
     charted = rw s (G.charted_none (charts_in c) (limit c) (view no_samples) refl (λ n h. ap (λ (k : Chart). k.value) (empty_at n)) (λ n h. ap (λ (k : Chart). k.first) (empty_at n)));
     room = rw s refl;
@@ -141,39 +147,43 @@ module _ (g : Rules) where
 
   -- ---- an accepted maintenance line: the unit is accredited, so no ground stands
 
-  record Calm (u : U.Unit) : Type 0 where
+  record Calm (u : U.Contents) : Type 0 where
     unopened : u.misses.opened ≡ false
     unbroken : is_broken u.latest ≡ false
     over : any_over c u.stretch.charts ≡ false
 
-  calm_in : (u : U.Unit) (h : List Step) → Kept g u h → u.stage ≡ ACCREDITED → Calm u
+  calm_in : (u : U.Contents) (h : List Step) → Kept g u h → u.stage ≡ Accredited → Calm u
   calm_in u h k a =
       let p = or_neither (u.misses.opened || is_broken u.latest) (any_over c u.stretch.charts) (k.calm a) in
       let q = or_neither u.misses.opened (is_broken u.latest) p.0 in
       record { unopened = q.0; unbroken = q.1; over = p.1 }
 
-stage_is : (u : U.Unit) (x : Seen) → Open u x → x.study ≡ false → u.stage ≡ ACCREDITED
-stage_is u x o k =
-    let p = or_neither (not x.study && not (eqb u.stage ACCREDITED)) (x.study && eqb u.stage ACCREDITED) o.stage in
-    eqb-true u.stage ACCREDITED (not-false _ (and_fails (not x.study) (not (eqb u.stage ACCREDITED)) (ap not k) p.0))
+accredited : (stage : Stage) → is_accredited stage ≡ true → stage ≡ Accredited
+accredited Applicant e = absurd (false≢true e)
+accredited Second e = absurd (false≢true e)
+accredited Accredited e = refl
+accredited Probation e = absurd (false≢true e)
+accredited Closed e = absurd (false≢true e)
 
-pub not_before : (u : U.Unit) (x : Seen) → Open u x → u.month ≤ x.month
+stage_is : (u : U.Contents) (x : Seen) → Open u x → x.study ≡ false → u.stage ≡ Accredited
+stage_is u x o k =
+    let p = or_neither (not x.study && not (is_accredited u.stage)) (x.study && is_accredited u.stage) o.stage in
+    accredited u.stage (not-false _ (and_fails (not x.study) (not (is_accredited u.stage)) (ap not k) p.0))
+
+pub not_before : (u : U.Contents) (x : Seen) → Open u x → u.month ≤ x.month
 not_before u x o = ltb-false x.month u.month o.backdated
 
 -- ---- what a line that no row refuses does: x is what it is to the unit
 
-module _ (g : Rules) (sound : Sound g) (u : U.Unit) (h : List Step) (line : List ℕ) (good : GoodSeen (g.seen line)) (o : Open u (g.seen line)) (K : Kept g u h) where
+module _ (g : Rules) (sound : Sound g) (u : U.Contents) (h : List Step) (line : List ℕ) (good : GoodSeen (g.seen line)) (o : Open u (g.seen line)) (K : Kept g u h) where
   abbrev x : Seen
   x = g.seen line
-
-  abbrev step : Event → Step
-  step e = record { line = line; event = e }
 
   later : u.month ≤ x.month
   later = not_before u x o
 
   -- the step of an accepted maintenance line
-  entry_at : (e : Event) → is_accepted e ≡ true → x.study ≡ false → (b : Bool) → x.missed ≡ b → entry_in g (step e) ≡ entry_by b g.constants x ∷ []
+  entry_at : (e : Event) → is_accepted e ≡ true → x.study ≡ false → (b : Bool) → x.missed ≡ b → entry_in g (step line e) ≡ entry_by b g.constants x ∷ []
   entry_at e n k b m =
       ap (λ (p : Bool). cond p (entry_of g.constants x) []) n
       ∙ ap (λ (p : Bool). cond p [] (entry_by x.missed g.constants x ∷ [])) k
@@ -190,11 +200,11 @@ module _ (g : Rules) (sound : Sound g) (u : U.Unit) (h : List Step) (line : List
   unopened_before k = K.opened ∙ K.calm (stage_is u x o k)
 
   -- a miss with event e, after which the stage is s, and by which misses are named or not
-  missed_with : (e : Event) (s : ℕ) (named : Bool) → is_accepted e ≡ true → is_misidentification e ≡ false → opens e ≡ named → (s ≡ ACCREDITED → named ≡ false)
+  missed_with : (e : Event) (s : Stage) (named : Bool) → is_accepted e ≡ true → is_misidentification e ≡ false → opens e ≡ named → (s ≡ Accredited → named ≡ false)
       → again u.misses.last x.month ≡ named → x.study ≡ false → x.missed ≡ true
-      → Kept g (taken_as e u s x.month u.set u.stretch (record { last = x.month; opened = named }) u.latest).unit (h ++ step e ∷ [])
+      → Kept g (taken_as e u s x.month u.set u.stretch (record { last = x.month; opened = named }) u.latest).unit (h ++ step line e ∷ [])
   missed_with e s named y n p calm a k m =
-      let es = one_entry g h (step e) (aMiss x.month) (entry_at e y k true m) in
+      let es = one_entry g h (step line e) (aMiss x.month) (entry_at e y k true m) in
       let q = quiet k in
       let ground_is : (named || is_broken u.latest || any_over g.constants u.stretch.charts) ≡ named =
       ap₂ (λ (r t : Bool). named || r || t) q.unbroken q.over ∙ or-false (named || false) ∙ or-false named in
@@ -203,17 +213,17 @@ module _ (g : Rules) (sound : Sound g) (u : U.Unit) (h : List Step) (line : List
         room = K.room;
         missed_kept = rw es (rw a at (missed_missed (entries_of g h) u.misses.last x.month (rw q.unopened at K.missed_kept) (omega (arith, K.miss, later)) real));
         counted = rw es (counted_missed (entries_of g h) u.latest x.month K.counted);
-        named = named_more h (step e) ∙ ap₂ (λ (r t : Bool). r || t) K.named n ∙ or-false (is_broken u.latest);
+        named = named_more h (step line e) ∙ ap₂ (λ (r t : Bool). r || t) K.named n ∙ or-false (is_broken u.latest);
         ordered = rw (es, years_missed (entries_of g h) x.month) K.ordered;
-        opened = opened_more h (step e) ∙ ap₂ (λ (r t : Bool). r || t) (unopened_before k) p ∙ sym ground_is;
+        opened = opened_more h (step line e) ∙ ap₂ (λ (r t : Bool). r || t) (unopened_before k) p ∙ sym ground_is;
         calm = λ z. ground_is ∙ calm z;
         year = omega (arith, K.year, later);
         miss = omega arith;
       }
 
   pub missed_step : (b : Bool) → again u.misses.last x.month ≡ b → x.study ≡ false → x.missed ≡ true
-      → Kept g (missed_by b u x.month).unit (h ++ step (missed_by b u x.month).event ∷ [])
-  missed_step true a k m = missed_with ByMisses PROBATION true refl refl refl (λ (z : PROBATION ≡ ACCREDITED). absurd (omega arith)) a k m
+      → Kept g (missed_by b u x.month).unit (h ++ step line (missed_by b u x.month).event ∷ [])
+  missed_step true a k m = missed_with ByMisses Probation true refl refl refl (λ (z : Probation ≡ Accredited). cc) a k m
   missed_step false a k m = rw (quiet k).unopened (missed_with MissedLine u.stage false refl refl refl (λ _. refl) a k m)
 
   later_year : u.stretch.year ≤ x.year
@@ -230,11 +240,11 @@ module _ (g : Rules) (sound : Sound g) (u : U.Unit) (h : List Step) (line : List
   entry = sample x.year x.count (contribution_to g.constants x.differences)
 
   -- a sample with event e, after which the stage is s
-  sample_with : (e : Event) (s : ℕ) → is_accepted e ≡ true → is_misidentification e ≡ is_broken latest → opens e ≡ (is_broken latest || any_over g.constants t.charts)
-      → (s ≡ ACCREDITED → (is_broken latest || any_over g.constants t.charts) ≡ false) → x.study ≡ false → x.missed ≡ false
-      → Kept g (taken_as e u s x.month u.set t u.misses latest).unit (h ++ step e ∷ [])
+  sample_with : (e : Event) (s : Stage) → is_accepted e ≡ true → is_misidentification e ≡ is_broken latest → opens e ≡ (is_broken latest || any_over g.constants t.charts)
+      → (s ≡ Accredited → (is_broken latest || any_over g.constants t.charts) ≡ false) → x.study ≡ false → x.missed ≡ false
+      → Kept g (taken_as e u s x.month u.set t u.misses latest).unit (h ++ step line e ∷ [])
   sample_with e s y n p calm k m =
-      let es = one_entry g h (step e) entry (entry_at e y k false m) in
+      let es = one_entry g h (step line e) entry (entry_at e y k false m) in
       let to = contribution_to g.constants x.differences in
       let q = quiet k in
       let ground_is : (u.misses.opened || is_broken latest || any_over g.constants t.charts) ≡ (is_broken latest || any_over g.constants t.charts) =
@@ -246,20 +256,20 @@ module _ (g : Rules) (sound : Sound g) (u : U.Unit) (h : List Step) (line : List
         room = each_length (charts_in g.constants) _ u.stretch.charts ∙ K.room;
         missed_kept = rw es (missed_sample (entries_of g h) u.misses.last u.misses.opened x.year x.count to K.missed_kept);
         counted = rw es (counted_sample (entries_of g h) u.latest x.year x.count to K.counted q.unbroken);
-        named = named_more h (step e) ∙ ap₂ (λ (r t : Bool). r || t) (K.named ∙ q.unbroken) n;
+        named = named_more h (step line e) ∙ ap₂ (λ (r t : Bool). r || t) (K.named ∙ q.unbroken) n;
         ordered = rw (es, years_sample (entries_of g h) x.year x.count to) (ordered_more (years (entries_of g h)) u.stretch.year x.year K.ordered later_year);
-        opened = opened_more h (step e) ∙ ap₂ (λ (r t : Bool). r || t) (unopened_before k) p ∙ sym ground_is;
+        opened = opened_more h (step line e) ∙ ap₂ (λ (r t : Bool). r || t) (unopened_before k) p ∙ sym ground_is;
         calm = λ z. ground_is ∙ calm z;
         year = omega (arith, good.month);
         miss = omega (arith, K.miss, later);
       }
 
   pub sample_step : (a b : Bool) → is_broken latest ≡ a → any_over g.constants t.charts ≡ b → x.study ≡ false → x.missed ≡ false
-      → Kept g (sample_by a b u x.month t latest).unit (h ++ step (sample_by a b u x.month t latest).event ∷ [])
+      → Kept g (sample_by a b u x.month t latest).unit (h ++ step line (sample_by a b u x.month t latest).event ∷ [])
   sample_step true b p q k m =
-      sample_with ByMisidentifications PROBATION refl (sym p) (sym (ap (λ (r : Bool). r || any_over g.constants t.charts) p)) (λ (z : PROBATION ≡ ACCREDITED). absurd (omega arith)) k m
+      sample_with ByMisidentifications Probation refl (sym p) (sym (ap (λ (r : Bool). r || any_over g.constants t.charts) p)) (λ (z : Probation ≡ Accredited). cc) k m
   sample_step false true p q k m =
-      sample_with ByCharts PROBATION refl (sym p) (sym (ap₂ (λ (r s : Bool). r || s) p q)) (λ (z : PROBATION ≡ ACCREDITED). absurd (omega arith)) k m
+      sample_with ByCharts Probation refl (sym p) (sym (ap₂ (λ (r s : Bool). r || s) p q)) (λ (z : Probation ≡ Accredited). cc) k m
   sample_step false false p q k m =
       let none = ap₂ (λ (r s : Bool). r || s) p q in
       sample_with Sample u.stage refl (sym p) (sym none) (λ _. none) k m

@@ -22,3 +22,4 @@ pub mod EveryLine
 pub mod Claimed
 pub mod ResidueUnitLaws
 pub mod MisidentifiedLaws
+pub mod Firsts

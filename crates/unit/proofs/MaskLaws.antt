@@ -2,11 +2,12 @@
 use Prim.Native.Nat.{ℕ, zero, suc, ◌+◌, ◌*◌, ◌/◌, ◌%◌, ◌^◌, ◌≤◌, ◌<◌}
 use mathlib.Core.Path.{◌≡◌, refl, sym, ap, ◌∙◌}
 use mathlib.Core.Bool.{Bool, true, false}
-use mathlib.Core.List.{List, [], ◌∷◌}
+use mathlib.Core.List.{List, [], ◌∷◌, ◌++◌}
 use native.Mathlib.Nat.{div-div-eq-div-mul, pow-succ'}
 use native.Mathlib.Omega.{arith}
 use lib.Dec.{eqb, lit<}
-use lib.ListN.{length, get_or, drop, length-drop}
+use lib.ListN.{length, get_or}
+use Rattle.std.proofs.lemmas.List.{length-append}
 use Rattle.difference.specs.Contribution.{CHARTS}
 use Rattle.reply.specs.Report.{bit_at, no_report}
 use Rattle.unit.specs.Status.{bit_of, mask_of}
@@ -46,6 +47,10 @@ within [] (suc k) h = omega (arith, within [] k (omega arith), pow-succ' 2 k)
 within (r ∷ rows) zero h = absurd (omega arith)
 within (r ∷ rows) (suc k) h = omega (arith, within rows k (omega arith), bit_lt r.over, pow-succ' 2 k)
 
--- so there is room for one more, but before the first
-pub mask_room : (rows : List ChartReport) (n : ℕ) → length rows ≡ CHARTS → 0 < n → mask_of (drop n rows) < 2 ^ 15
-mask_room rows n h p = within (drop n rows) 15 (omega (arith, length-drop n rows))
+-- so there is room for one more, while one is still to come
+pub mask_room : (rows rest left taken : List ChartReport) (row : ChartReport)
+    → length rows ≡ CHARTS → rows ≡ rest ++ taken → rest ≡ left ++ row ∷ [] → mask_of taken < 2 ^ 15
+mask_room rows rest left taken row long parts next =
+    let all = ap length parts ∙ length-append rest taken in
+    let more = ap length next ∙ length-append left (row ∷ []) in
+    within taken 15 (omega (arith, all, more, long))

@@ -1,5 +1,5 @@
 -- Misidentifications over the list of lines: a residue unit answers 08 where the first window breaks, and a unit of food chemistry never. Assumes nothing.
-use Prim.Native.Nat.{ℕ, zero, suc}
+use Prim.Native.Nat.{ℕ}
 use mathlib.Core.Path.{◌≡◌, refl, sym, ap, ap₂, subst, ◌∙◌}
 use mathlib.Core.Bool.{Bool, true, false, cond, ◌||◌, or-true, true≢false, false≢true}
 use mathlib.Core.Logic.{◌↔◌, ⊎_elim}
@@ -14,6 +14,8 @@ use Rattle.laws.proofs.Bools.{or_either, or_neither}
 use Rattle.laws.proofs.Cond.{cases}
 use Rattle.reply.specs.declared.event.Event.{Event}
 use Rattle.reply.specs.declared.event.Event.TheVariants.{Refused, Sample, Missed, UnderWay, Passed, Failed, ByCharts, ByMisses, ByMisidentifications}
+use Rattle.std.specs.Prelude.{Result, Ok, Err, ⊤}
+use Rattle.rows.specs.declared.refusal.Refusal.{Refusal}
 use Rattle.rows.specs.Rows.{first_row}
 use Rattle.seen.specs.Rules.{food_chemistry, residues_of, rules_of}
 use Rattle.seen.specs.declared.Seen.{Seen}
@@ -24,8 +26,8 @@ use Rattle.unit.specs.Reached.{after, replay}
 use Rattle.unit.specs.Set.{entered_of, passes_set}
 use Rattle.unit.specs.Stretch.{any_over, sampled_of}
 use Rattle.unit.specs.Take.{new_of, missed_by, latest_after, sample_by, judged_by, study_by, accepted_by, taken_by_row, rows_in, taken_in, taken_of}
-use Rattle.unit.specs.declared.Taken.{Taken}
-use Rattle.unit.specs.declared.Unit as U
+use Rattle.unit.specs.Taken.{Taken}
+use Rattle.unit.specs.declared.Contents as U
 use Rattle.unit.specs.declared.set.Set.{Set}
 use Rattle.unit.specs.declared.stretch.Stretch.{Stretch}
 use Rattle.unit.proofs.Claimed.{claim_holds}
@@ -37,7 +39,7 @@ use Rattle.unit.proofs.Within.{history_in, history_in_lem, category_is}
 
 -- ---- one more line
 
-history_more : (u : U.Unit) (ls : List (List ℕ)) (l : List ℕ) → history_from u (ls ++ l ∷ []) ≡ history_from u ls ++ record { line = l; event = (taken_of (after u ls) l).event } ∷ []
+history_more : (u : U.Contents) (ls : List (List ℕ)) (l : List ℕ) → history_from u (ls ++ l ∷ []) ≡ history_from u ls ++ record { line = l; event = (taken_of (after u ls) l).event } ∷ []
 history_more u [] l = refl
 history_more u (m ∷ ls) l = ap (λ (h : List Step). record { line = m; event = (taken_of u m).event } ∷ h) (history_more (taken_of u m).unit ls l)
 
@@ -109,7 +111,7 @@ record Unbroken (t : Taken) : Type 0 where
   latest : t.unit.latest ≡ no_counts
   event : is_misidentification t.event ≡ false
 
-module _ (c : Constants) (u : U.Unit) (quiet : u.latest ≡ no_counts) where
+module _ (c : Constants) (u : U.Contents) (quiet : u.latest ≡ no_counts) where
   missed_unbroken : (b : Bool) (m : ℕ) → Unbroken (missed_by b u m)
   missed_unbroken true m = record { latest = quiet; event = refl }
   missed_unbroken false m = record { latest = quiet; event = refl }
@@ -137,17 +139,17 @@ module _ (c : Constants) (u : U.Unit) (quiet : u.latest ≡ no_counts) where
         let s = sampled_of c u.stretch x.year x.differences in
         sample_unbroken (any_over c s.charts) x.month s (latest_after u x) (ap₂ latest_of none quiet)
 
-    by_row_lem : (n : ℕ) → Unbroken (taken_by_row n c u x)
-    by_row_lem zero = accepted_unbroken x.study x.missed
-    by_row_lem (suc n) = record { latest = quiet; event = refl }
+    by_row_lem : (n : Result ⊤ Refusal) → Unbroken (taken_by_row n c u x)
+    by_row_lem (Ok none) = accepted_unbroken x.study x.missed
+    by_row_lem (Err n) = record { latest = quiet; event = refl }
 
-food_step : (u : U.Unit) → u.latest ≡ no_counts → (line : List ℕ) → Unbroken (taken_in food_chemistry u line)
+food_step : (u : U.Contents) → u.latest ≡ no_counts → (line : List ℕ) → Unbroken (taken_in food_chemistry u line)
 unfolding taken_in
 food_step u quiet line =
     let g = food_chemistry in
     by_row_lem g.constants u quiet (g.seen line) refl (first_row (rows_in g u line))
 
-food_never : (u : U.Unit) → u.latest ≡ no_counts → (ls : List (List ℕ)) → misidentified_in (history_in food_chemistry u ls) ≡ false
+food_never : (u : U.Contents) → u.latest ≡ no_counts → (ls : List (List ℕ)) → misidentified_in (history_in food_chemistry u ls) ≡ false
 food_never u quiet [] = refl
 food_never u quiet (l ∷ ls) =
     let t = food_step u quiet l in

@@ -6,7 +6,7 @@ use native.Mathlib.Omega.{arith}
 use lib.Dec.{eqb, lit≤}
 use lib.IntN.{ℤ, nat_abs}
 use lib.ListN.{length-replicate}
-use Rattle.difference.specs.Contribution.{contributions_of, ANALYTES, EACH, CHARTS}
+use Rattle.difference.specs.Contribution.{ANALYTES, contributions_of, EACH, CHARTS}
 use Rattle.difference.specs.bounds.Numbers.{LARGEST, Moderate, AllModerate}
 use Rattle.difference.specs.declared.constants.Constants.{Constants}
 use Rattle.difference.specs.declared.contribution.Contributions.{Contributions}
@@ -51,7 +51,7 @@ module _ (c : Constants) (few : c.analytes ≤ ANALYTES) (fits : Fits c) (s : St
     samples = l;
     room = each_length (charts_in c) _ s.charts ∙ h.room;
     charts = λ n k. subst (λ (z : Chart). nat_abs z.value ≤ LARGEST * suc (earlier s year))
-        (sym (each_at (charts_in c) (moved_by c (earlier s year) ds) s.charts no_chart n k (omega (arith, h.room))))
+        (sym (each_at (charts_in c) (moved_by c (earlier s year) ds) s.charts no_chart n k (omega (arith, h.room, few))))
         (step_bounded (earlier s year) (chart_at s.charts n).value (contribution_to c ds n) (same_or_none year n k) (moderate_to c fits ds n));
   }
 

@@ -63,7 +63,7 @@ entered_bounded c few s ds h cap = record {
     go : (a : ℕ) (b : Bool) → ltb a c.analytes ≡ b → SumsBounded (suc s.lines) (sums_at (entered_of c s ds).sums a)
     go a true e =
         let l = ltb-true a c.analytes e in
-        subst (SumsBounded (suc s.lines)) (sym (each_at c.analytes (entered_by ds) s.sums no_sums a l (omega (arith, h.room))))
+        subst (SumsBounded (suc s.lines)) (sym (each_at c.analytes (entered_by ds) s.sums no_sums a l (omega (arith, h.room, few))))
         (more_bounded (sums_at s.sums a) (difference_at ds a) (cap a) (h.sums a))
     go a false e =
         subst (SumsBounded (suc s.lines)) (sym (each_past c.analytes (entered_by ds) s.sums no_sums a (ltb-false a c.analytes e)))

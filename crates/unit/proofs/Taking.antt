@@ -1,5 +1,5 @@
 -- What a line that reads does, case by case, and what an accepted one says of the unit. Assumes nothing.
-use Prim.Native.Nat.{ℕ, zero, suc, ◌<◌}
+use Prim.Native.Nat.{ℕ, ◌<◌}
 use mathlib.Core.Path.{◌≡◌, refl, sym, ap, ap₂, ◌∙◌}
 use mathlib.Core.Bool.{Bool, true, false, not, ◌&&◌}
 use native.Mathlib.Omega.{arith}
@@ -7,48 +7,46 @@ use borrow.Author.Tests.{leb-false}
 use lib.Dec.{leb, eqb}
 use Rattle.laws.proofs.Bools.{and_fails}
 use Rattle.laws.proofs.Cond.{cases}
+use Rattle.std.specs.Prelude.{Result, Ok, Err, ⊤}
 use Rattle.rows.specs.Rows.{first_row}
+use Rattle.rows.specs.declared.refusal.Refusal.{Refusal}
 use Rattle.rows.proofs.RowsLaws.{passed}
 use Rattle.unit.specs.Stretch.{FULL, earlier}
 use Rattle.unit.specs.Take.{closed_row, stage_row, backdated_row, gap_row, full_row, unit_rows, refused_of, missed_of, sample_of, study_of, accepted_by, taken_by_row, taken_seen}
-use Rattle.unit.specs.declared.Unit as U
+use Rattle.unit.specs.declared.Contents as U
 use Rattle.difference.specs.declared.constants.Constants.{Constants}
 use Rattle.seen.specs.declared.Seen.{Seen}
 
-module _ (c : Constants) (u : U.Unit) (x : Seen) where
+module _ (c : Constants) (u : U.Contents) (x : Seen) where
   -- ---- each case
 
-  refused_by : (n : ℕ) → (n ≡ 0 → ⊥) → refused_of u n ≡ taken_by_row n c u x
-  refused_by zero z = absurd (z refl)
-  refused_by (suc n) z = refl
-
-  pub refused_row : (n : ℕ) → n ≡ first_row (unit_rows u x) → (n ≡ 0 → ⊥) → refused_of u n ≡ taken_seen c u x
+  pub refused_row : (n : Refusal) → first_row (unit_rows u x) ≡ Err n → refused_of u n ≡ taken_seen c u x
   unfolding taken_seen
-  refused_row n e z = refused_by n z ∙ ap (λ (k : ℕ). taken_by_row k c u x) e
+  refused_row n e = sym (ap (λ (k : Result ⊤ Refusal). taken_by_row k c u x) e)
 
-  accepted : (a b : Bool) → first_row (unit_rows u x) ≡ 0 → x.study ≡ a → x.missed ≡ b → accepted_by a b c u x ≡ taken_seen c u x
+  accepted : (a b : Bool) → first_row (unit_rows u x) ≡ Ok tt → x.study ≡ a → x.missed ≡ b → accepted_by a b c u x ≡ taken_seen c u x
   unfolding taken_seen
-  accepted a b e k m = sym (ap (λ (n : ℕ). taken_by_row n c u x) e ∙ ap₂ (λ (s g : Bool). accepted_by s g c u x) k m)
+  accepted a b e k m = sym (ap (λ (n : Result ⊤ Refusal). taken_by_row n c u x) e ∙ ap₂ (λ (s g : Bool). accepted_by s g c u x) k m)
 
-  pub accepted_study : first_row (unit_rows u x) ≡ 0 → x.study ≡ true → study_of c u x ≡ taken_seen c u x
+  pub accepted_study : first_row (unit_rows u x) ≡ Ok tt → x.study ≡ true → study_of c u x ≡ taken_seen c u x
   accepted_study e k = accepted true x.missed e k refl
 
-  pub accepted_missed : first_row (unit_rows u x) ≡ 0 → x.study ≡ false → x.missed ≡ true → missed_of u x ≡ taken_seen c u x
+  pub accepted_missed : first_row (unit_rows u x) ≡ Ok tt → x.study ≡ false → x.missed ≡ true → missed_of u x ≡ taken_seen c u x
   accepted_missed e k m = accepted false true e k m
 
-  pub accepted_sample : first_row (unit_rows u x) ≡ 0 → x.study ≡ false → x.missed ≡ false → sample_of c u x ≡ taken_seen c u x
+  pub accepted_sample : first_row (unit_rows u x) ≡ Ok tt → x.study ≡ false → x.missed ≡ false → sample_of c u x ≡ taken_seen c u x
   accepted_sample e k m = accepted false false e k m
 
 -- ---- none of rows 8 to 12 fits
 
-pub record Open (u : U.Unit) (x : Seen) : Type 0 where
+pub record Open (u : U.Contents) (x : Seen) : Type 0 where
   pub closed : closed_row u ≡ false
   pub stage : stage_row u x ≡ false
   pub backdated : backdated_row u x ≡ false
   pub gap : gap_row x ≡ false
   pub full : full_row u x ≡ false
 
-pub is_open : (u : U.Unit) (x : Seen) → first_row (unit_rows u x) ≡ 0 → Open u x
+pub is_open : (u : U.Contents) (x : Seen) → first_row (unit_rows u x) ≡ Ok tt → Open u x
 unfolding first_row
 is_open u x e =
     let a = passed _ _ _ e in
@@ -59,7 +57,7 @@ is_open u x e =
     record { closed = a.0; stage = b.0; backdated = c.0; gap = d.0; full = f.0 }
 
 -- a sample finds room in its stretch
-pub room : (u : U.Unit) (x : Seen) → Open u x → x.study ≡ false → x.missed ≡ false → earlier u.stretch x.year < FULL
+pub room : (u : U.Contents) (x : Seen) → Open u x → x.study ≡ false → x.missed ≡ false → earlier u.stretch x.year < FULL
 room u x o k m =
     let s = u.stretch in
     let sampled : (not x.study && not x.missed) ≡ true = ap₂ (λ (a b : Bool). not a && not b) k m in

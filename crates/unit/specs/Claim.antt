@@ -9,7 +9,7 @@ use Rattle.unit.specs.Charts.{charts_in, contribution_to, limit}
 use Rattle.reply.specs.Event.{event_byte}
 use Rattle.reply.specs.Report.{bit_at, no_report}
 use Rattle.unit.specs.Take.{new_of, taken_of}
-use Rattle.unit.specs.declared.Unit as U
+use Rattle.unit.specs.declared.Contents as U
 use Rattle.difference.specs.declared.constants.Constants.{Constants}
 use Rattle.reply.specs.declared.event.Event.{Event}
 use Rattle.reply.specs.declared.report.Report.{Report}
@@ -22,7 +22,7 @@ pub record Step : Type 0 where
   pub event : Event
 
 -- the lines given to a unit, each with its event, in order
-abbrev pub history_from : U.Unit → List (List ℕ) → List Step
+abbrev pub history_from : U.Contents → List (List ℕ) → List Step
 history_from u [] = []
 history_from u (l ∷ ls) = record { line = l; event = (taken_of u l).event } ∷ history_from (taken_of u l).unit ls
 

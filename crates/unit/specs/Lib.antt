@@ -2,6 +2,7 @@
 pub mod Charts
 pub mod Stretch
 pub mod Set
+pub mod Taken
 pub mod Take
 pub mod Status
 pub mod Reached

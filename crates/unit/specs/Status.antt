@@ -6,7 +6,7 @@ use Rattle.difference.specs.Contribution.{CHARTS}
 use Rattle.seen.specs.Rules.{rules_of}
 use Rattle.unit.specs.Charts.{charts_in, is_over}
 use Rattle.unit.specs.Stretch.{chart_at}
-use Rattle.unit.specs.declared.Unit as U
+use Rattle.unit.specs.declared.Contents as U
 use Rattle.unit.specs.declared.chart.Chart.{Chart}
 use Rattle.difference.specs.declared.constants.Constants.{Constants}
 use Rattle.reply.specs.Report.{no_report}
@@ -35,7 +35,7 @@ mask_of [] = 0
 mask_of (r ∷ reports) = bit_of r.over + 2 * mask_of reports
 
 -- the status of a unit of a category with these constants
-unfoldable pub status_by : Constants → U.Unit → Report
+unfoldable pub status_by : Constants → U.Contents → Report
 status_by c u =
     record {
       stage = u.stage;
@@ -45,5 +45,5 @@ status_by c u =
       charts = reports_of c u.stretch;
     }
 
-abbrev pub status_of : U.Unit → Report
+abbrev pub status_of : U.Contents → Report
 status_of u = status_by (rules_of u.category).constants u

@@ -7,7 +7,7 @@ ghost use Rattle.unit.specs.Stretch.{FULL};
 ghost use Rattle.unit.specs.bounds.Numbers.{Roomy};
 
 // A chart, the regulation's CUSUM: its value, and the first sample of the run shown.
-#[derive(Clone, Copy)]
+#[derive(Clone, Copy, Default)]
 pub struct Chart {
     pub value: i32,
     pub first: u16,
@@ -18,9 +18,11 @@ fn added(value: i32, x: i32) -> i32
     requires { Roomy value × Moderate x }
     ensures { result ≡ raised (value +ℤ x) }
 {
-    let sum = value + x;
-    if sum < 0 { 0 } else { sum }
+    (value + x).max(0)
 }
+
+// The bounds of `before`, value and contribution stand in `step` and in what it calls, once each: a type
+// for them would be made and taken apart in one call.
 
 // The value after a sample that contributes `x`, where `before` samples of the stretch stand before
 // it. The first sets the chart to its contribution, negative or not; each later one adds it.

@@ -3,32 +3,21 @@ ghost use Rattle.std.specs.Prelude.{◌≡◌, ◌<◌, ◌≤◌};
 ghost use Rattle.laws.specs.Each.{each_below};
 ghost use Rattle.difference.specs.Contribution.{ANALYTES};
 ghost use Rattle.unit.specs.Charts.{is_over, moved_by, charts_in};
-ghost use Rattle.unit.specs.Stretch.{no_samples, earlier, sampled_of, any_over, FULL};
+ghost use Rattle.unit.specs.Stretch.{earlier, sampled_of, any_over, FULL};
 ghost use Rattle.unit.specs.bounds.Numbers.{StretchBounded, ChartsRoomy};
 
 use crate::chart::{Chart, step};
-use difference::constants::{ANALYTES, CHARTS, Constants, EACH};
-use difference::contribution::{contribute, limit};
+use crate::known::Known;
+use difference::constants::{ANALYTES, CHARTS, EACH};
 use difference::difference::Difference;
 
-// The charts by number: 4 × analyte + 0 P, 1 N, 2 V, 3 D.
-#[derive(Clone, Copy)]
+// The charts by number: 4 × analyte + 0 P, 1 N, 2 V, 3 D. With no sample since admission the year is 0,
+// which no line has: a line is of this year where `year == s.year`, an `Option` no plainer.
+#[derive(Clone, Copy, Default)]
 pub struct Stretch {
     pub year: u16,
     pub samples: u16,
     pub charts: [Chart; CHARTS],
-}
-
-// No sample since admission: year 0, which no line has.
-pub fn no_samples() -> Stretch
-    ensures { result ≡ no_samples }
-{
-    let none = Chart { value: 0, first: 0 };
-    Stretch {
-        year: 0,
-        samples: 0,
-        charts: [none; CHARTS],
-    }
 }
 
 // The samples of this year's stretch before a sample of the year.
@@ -40,32 +29,31 @@ fn samples_before(s: Stretch, year: u16) -> u16
 
 // The charts after a sample with these differences, where `before` samples stand before it.
 fn move_charts(
-    c: Constants,
+    c: Known,
     start: [Chart; CHARTS],
     before: u16,
     d: [Difference; ANALYTES],
 ) -> [Chart; CHARTS]
-    requires { (c.analytes ≤ ANALYTES) × (before < FULL) × ChartsRoomy (charts_in c) start }
-    ensures { result ≡ each_below (charts_in c) (moved_by c before d) start }
+    requires { (before < FULL) × ChartsRoomy (charts_in c.constants) start }
+    ensures { result ≡ each_below (charts_in c.constants) (moved_by c.constants before d) start }
 {
     let mut charts = start;
-    let mut a: usize = 0;
-    while a < c.analytes as usize {
-        let x = contribute(c, d[a]);
-        let first = EACH as usize * a;
-        charts[first] = step(charts[first], before, x.p);
-        charts[first + 1] = step(charts[first + 1], before, x.n);
-        charts[first + 2] = step(charts[first + 2], before, x.v);
-        charts[first + 3] = step(charts[first + 3], before, x.d);
-        a += 1;
+    // By index. A zip over the fours that `as_chunks_mut` lends was tried: the goal at the end has for the
+    // charts a list, `given`, of which nothing is known.
+    for a in 0..usize::from(c.constants.analytes) {
+        let x = c.constants.contribute(d[a]);
+        for (k, part) in [x.p, x.n, x.v, x.d].iter().enumerate() {
+            let n = usize::from(EACH) * a + k;
+            charts[n] = step(charts[n], before, *part);
+        }
     }
     charts
 }
 
 // The stretch after a sample, which opens a new one where the year is another.
-pub fn sampled(c: Constants, s: Stretch, year: u16, d: [Difference; ANALYTES]) -> Stretch
-    requires { (c.analytes ≤ ANALYTES) × (earlier s year < FULL) × StretchBounded c s }
-    ensures { result ≡ sampled_of c s year d }
+pub fn sampled(c: Known, s: Stretch, year: u16, d: [Difference; ANALYTES]) -> Stretch
+    requires { (earlier s year < FULL) × StretchBounded c.constants s }
+    ensures { result ≡ sampled_of c.constants s year d }
 {
     let before = samples_before(s, year);
     let old = s.charts;
@@ -78,27 +66,23 @@ pub fn sampled(c: Constants, s: Stretch, year: u16, d: [Difference; ANALYTES]) -
 }
 
 // Whether a chart is over: its value is above its limit.
-pub fn is_over(c: Constants, n: u8, chart: Chart) -> bool
-    ensures { result ≡ is_over c n chart }
+pub fn is_over(c: Known, n: u8, chart: Chart) -> bool
+    ensures { result ≡ is_over c.constants n chart }
 {
-    chart.value > limit(c, n % EACH)
+    chart.value > c.constants.limit(n % EACH)
 }
 
 // Whether any chart is over.
-pub fn any_over(c: Constants, charts: [Chart; CHARTS]) -> bool
-    requires { c.analytes ≤ ANALYTES }
-    ensures { result ≡ any_over c charts }
+pub fn any_over(c: Known, charts: [Chart; CHARTS]) -> bool
+    ensures { result ≡ any_over c.constants charts }
 {
     let mut over = false;
-    let mut a: u8 = 0;
-    while a < c.analytes {
-        let n = EACH * a;
-        let first = n as usize;
-        over = over | is_over(c, n, charts[first]);
-        over = over | is_over(c, n + 1, charts[first + 1]);
-        over = over | is_over(c, n + 2, charts[first + 2]);
-        over = over | is_over(c, n + 3, charts[first + 3]);
-        a += 1;
+    // analyte by analyte, so that each chart's limit is known when the program is built
+    for a in 0..c.constants.analytes {
+        for k in 0..EACH {
+            let n = EACH * a + k;
+            over |= is_over(c, n, charts[usize::from(n)]);
+        }
     }
     over
 }

@@ -8,7 +8,7 @@ use Rattle.difference.specs.bounds.Numbers.{LARGEST}
 use Rattle.unit.specs.Set.{sums_at}
 use Rattle.unit.specs.Stretch.{FULL, chart_at}
 use Rattle.study.specs.Study.{SET}
-use Rattle.unit.specs.declared.Unit as U
+use Rattle.unit.specs.declared.Contents as U
 use Rattle.unit.specs.declared.chart.Chart.{Chart}
 use Rattle.difference.specs.declared.constants.Constants.{Constants}
 use Rattle.difference.specs.declared.difference.Difference.{Difference}
@@ -64,7 +64,7 @@ pub record SetBounded (s : Set) : Type 0 where
 abbrev pub LAST_MONTH : ℕ
 LAST_MONTH = 12 * LAST_YEAR + 12
 
-pub record Bounded (c : Constants) (u : U.Unit) : Type 0 where
+pub record Bounded (c : Constants) (u : U.Contents) : Type 0 where
   pub lines : u.set.lines < SET
   pub sums : SetBounded u.set
   pub stretch : StretchBounded c u.stretch

@@ -1,5 +1,5 @@
 -- `reports` meets its contract.
-use Rattle.std.proofs.Common.{Bool, ap, ◌∙◌, arith, rules}
+use Rattle.std.proofs.Common.{Bool, ap, ◌∙◌, arith}
 use Rattle.std.proofs.lemmas.List.{length-replicate}
 use Rattle.laws.proofs.EachLaws.{each_next}
 use Rattle.difference.specs.Contribution.{CHARTS}
@@ -9,8 +9,6 @@ use Rattle.unit.specs.Stretch.{chart_at}
 use Rattle.unit.proofs.shown.reports.Goals as goal
 
 pub loop-n-preserved : goal.loop-n-preserved
-loop-n-preserved c = (
-  search rules,
-  each_next c.loop-n.n _ _ no_report (omega (arith, c.loop-n.invariant.0, c.requires, length-replicate CHARTS no_report)) c.loop-n.invariant.1
-      (c.report_for.ensures ∙ ap (λ (b : Bool). report_for b c.args.s.samples (chart_at c.args.s.charts c.loop-n.n)) c.is_over.ensures),
-)
+loop-n-preserved c =
+    let put = rw c.from-i.ensures at (c.report_for.ensures ∙ ap (λ (b : Bool). report_for b c.args.s.samples (chart_at c.args.s.charts c.from-i.result)) c.is_over.ensures) in
+    rw c.from-i.ensures (each_next c.loop-n.n _ _ no_report (omega (arith, length-replicate CHARTS no_report)) c.loop-n.invariant put)

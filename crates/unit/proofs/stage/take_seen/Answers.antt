@@ -9,29 +9,27 @@ use Rattle.unit.specs.declared.stretch.Stretch.{Stretch}
 use Rattle.unit.proofs.Taking.{refused_row, accepted_study, accepted_missed, accepted_sample, is_open, room}
 use Rattle.unit.proofs.stage.take_seen.Goals as goal
 
-pub returns-then-row-ne0 : goal.returns-then-row-ne0
-returns-then-row-ne0 c =
-    c.refused.ensures ∙ refused_row c.args.c c.args.u c.args.x c.first_row-row.result c.first_row-row.ensures c.if-row-ne0.true
+pub returns-in-Err : goal.returns-in-Err
+returns-in-Err c = c.refused.ensures ∙ refused_row c.args.c.constants c.args.u c.args.x c.in-Err.refusal (sym c.first_row.ensures ∙ c.in-Err.is)
 
 pub returns-then-x : goal.returns-then-x
 returns-then-x c =
     c.study_line.ensures
-    ∙ ap (λ (s : Set). study_by (eqb s.lines SET) c.args.c c.args.u c.args.x.month s) c.entered.ensures
-    ∙ accepted_study c.args.c c.args.u c.args.x (sym c.first_row-row.ensures ∙ c.if-row-ne0.false) c.if-x.true
+    ∙ ap (λ (s : Set). study_by (eqb s.lines SET) c.args.c.constants c.args.u c.args.x.month s) c.entered.ensures
+    ∙ accepted_study c.args.c.constants c.args.u c.args.x (sym c.in_default.ensures) c.if-x.true
 
 pub returns-then-x-2 : goal.returns-then-x-2
 returns-then-x-2 c =
-    c.missed_line.ensures ∙ accepted_missed c.args.c c.args.u c.args.x (sym c.first_row-row.ensures ∙ c.if-row-ne0.false) c.if-x.false c.if-x-2.true
+    c.missed_line.ensures ∙ accepted_missed c.args.c.constants c.args.u c.args.x (sym c.in_default.ensures) c.if-x.false c.if-x-2.true
 
 pub sampled-requires : goal.sampled-requires
 sampled-requires c = (
-  c.requires.0,
-  room c.args.u c.args.x (is_open c.args.u c.args.x (sym c.first_row-row.ensures ∙ c.if-row-ne0.false)) c.if-x.false c.if-x-2.false,
-  c.requires.1.stretch,
+  room c.args.u c.args.x (is_open c.args.u c.args.x (sym c.in_default.ensures)) c.if-x.false c.if-x-2.false,
+  c.requires.0.stretch,
 )
 
 pub returns : goal.returns
 returns c =
     c.sample_line.ensures
-    ∙ ap₂ (λ (s : Stretch) (n : List ℕ). sample_by (is_broken n) (any_over c.args.c s.charts) c.args.u c.args.x.month s n) c.sampled.ensures c.latest_of.ensures
-    ∙ accepted_sample c.args.c c.args.u c.args.x (sym c.first_row-row.ensures ∙ c.if-row-ne0.false) c.if-x.false c.if-x-2.false
+    ∙ ap₂ (λ (s : Stretch) (n : List ℕ). sample_by (is_broken n) (any_over c.args.c.constants s.charts) c.args.u c.args.x.month s n) c.sampled.ensures c.latest_of.ensures
+    ∙ accepted_sample c.args.c.constants c.args.u c.args.x (sym c.in_default.ensures) c.if-x.false c.if-x-2.false

@@ -1,5 +1,5 @@
--- `any_over`: the flag is true exactly where a chart of the analytes so far is over.
-use Rattle.std.proofs.Common.{◌≡◌, ℕ, ◌*◌, ◌-◌, ◌≤◌}
+-- `any_over`: the flag is true exactly where a chart so far is over.
+use Rattle.std.proofs.Common.{◌≡◌, ℕ, ◌+◌, ◌*◌}
 use Rattle.laws.specs.Each.{any_below}
 use Rattle.difference.specs.Contribution.{EACH}
 use Rattle.unit.specs.Charts.{is_over}
@@ -7,7 +7,7 @@ use Rattle.unit.specs.Stretch.{chart_at}
 use Rattle.unit.proofs.stretch.any_over.Given as goal
 
 abbrev pub invariant-loop-a : goal.invariant-loop-a
-invariant-loop-a l = (l.a ≤ l.c.analytes) × (l.over ≡ any_below (EACH * l.a) (λ (i : ℕ). is_over l.c i (chart_at l.charts i)))
+invariant-loop-a l = l.over ≡ any_below (EACH * l.a) (λ (i : ℕ). is_over l.c.constants i (chart_at l.charts i))
 
-abbrev pub decreases-loop-a : goal.decreases-loop-a
-decreases-loop-a l = l.c.analytes - l.a
+abbrev pub invariant-loop-k : goal.invariant-loop-k
+invariant-loop-k l = l.over ≡ any_below (EACH * l.a + l.k) (λ (i : ℕ). is_over l.c.constants i (chart_at l.charts i))
