@@ -12,25 +12,25 @@ use lib.Dec.{ltb, leb}
 use lib.ListN.{length, take, drop, get_or, length-append, length-drop, drop_of_length-le, take-append-drop}
 use lib.Seq.{take-suc, take-add, take_all, drop-cons, drop-drop, get_or-drop}
 use Rattle.laws.proofs.Bools.{either}
-use Rattle.console.specs.declared.Console.{Console}
+use Rattle.console.specs.declared.Contents.{Contents as Console}
 use Rattle.console.specs.declared.Fed.{Fed}
 use Rattle.text.specs.Buffer.{with_text, put_text, put_place}
 use Rattle.text.specs.bounds.Room.{ANSWER, STATUS}
 use Rattle.console.specs.Lines.{Before}
-use Rattle.console.specs.State.{pending, stepped_of, step_text, console_after, text_after}
+use Rattle.console.specs.State.{stepped_of, step_text, console_after, text_after}
 use Rattle.console.specs.Stands.{Reached}
 use Rattle.console.specs.Feed.{takes, fed_of, fed_buffer, Progress, Continued, FeedKept}
 use Rattle.text.specs.Text.{NEWLINE, answer_text, status_text}
 use Rattle.reply.specs.declared.report.Report.{Report}
 use Rattle.unit.specs.Take.{taken_of}
 use Rattle.unit.specs.Status.{status_of}
-use Rattle.unit.specs.declared.Taken.{Taken}
+use Rattle.unit.specs.Taken.{Taken}
 use Rattle.unit.specs.declared.Unit as U
 use Rattle.console.specs.Answer.{answer_to, unit_after, printed}
 use Rattle.text.proofs.BufferLaws.{with_text_none, with_text_append, with_text_length, with_text_front, with_text_behind}
 use Rattle.text.proofs.PutLaws.{put_there}
 use Rattle.console.proofs.AnswerLaws.{line_given, printed_length}
-use Rattle.console.proofs.StandLaws.{step_newline, made_after, stands_after}
+use Rattle.console.proofs.StandLaws.{none_held, step_newline, made_after, stands_after}
 use Rattle.console.proofs.PartLaws.{part_length, console_append, text_append, part_text, part_takes}
 use Rattle.console.proofs.KeptLaws.{unit_after_lem}
 
@@ -152,36 +152,36 @@ module _ {c₀ : Console} {input output₀ : List ℕ} where
         }
 
     -- the line ends, and its answer is written
-    going_line : (u : U.Unit) (text : List ℕ) → i < length input → get_or input i 0 ≡ NEWLINE → u ≡ unit_after c.unit (pending c) → text ≡ printed (answer_to c.unit (pending c))
-        → Going c₀ input output₀ (record { unit = u; held = 0; bytes = c.bytes }) (with_text output w text) (i + 1) (w + length text)
+    going_line : (u : U.Unit) (text : List ℕ) → i < length input → get_or input i 0 ≡ NEWLINE → u ≡ unit_after c.unit c.part → text ≡ printed (answer_to c.unit c.part)
+        → Going c₀ input output₀ (record { unit = u; part = [] }) (with_text output w text) (i + 1) (w + length text)
     going_line u text h e r t =
         let p = step_newline c (get_or input i 0) (eq-eqb (get_or input i 0) NEWLINE e) in
-        let fits : length (step_text c (get_or input i 0)) ≤ STATUS = rw p.1 (printed_length (answer_to c.unit (pending c))) in
+        let fits : length (step_text c (get_or input i 0)) ≤ STATUS = rw p.1 (printed_length (answer_to c.unit c.part)) in
         rw (r, t) (rw (p.0, p.1) at (going_on g h k fits))
 
     room : w + STATUS ≤ length output
     room = omega (arith, k, g.fits, going_length g)
 
     -- an empty one: it is the status, and the console is as it was
-    pub going_empty : (report : Report) (next : List ℕ) (to : ℕ) → i < length input → get_or input i 0 ≡ NEWLINE → c.held ≡ 0 → report ≡ status_of c.unit
+    pub going_empty : (report : Report) (next : List ℕ) (to : ℕ) → i < length input → get_or input i 0 ≡ NEWLINE → length c.part ≡ 0 → report ≡ status_of c.unit
         → to ≡ put_place STATUS output w (status_text report) → next ≡ put_text STATUS output w (status_text report)
         → Going c₀ input output₀ c next (i + 1) to
     going_empty report next to h e z r p t =
-        let none : pending c ≡ [] = ap (λ (n : ℕ). take n c.bytes) z in
+        let none : c.part ≡ [] = none_held c.part z in
         let there = put_there STATUS output w (status_text report) room in
-        let same : record { unit = c.unit; held = 0; bytes = c.bytes } ≡ c = ap (λ (n : ℕ). record { unit = c.unit; held = n; bytes = c.bytes }) (sym z) in
+        let same : record { unit = c.unit; part = [] } ≡ c = ap (λ (l : List ℕ). record { unit = c.unit; part = l }) (sym none) in
         let line = going_line c.unit (status_text report) h e (rw none) (rw (none, r)) in
         rw (p ∙ there.0, t ∙ there.1) (rw same at line)
 
     -- any other: it is the event that the unit gives
-    pub going_given : (taken : Taken) (next : List ℕ) (to : ℕ) → i < length input → get_or input i 0 ≡ NEWLINE → (length (pending c) ≡ 0 → ⊥) → taken ≡ taken_of c.unit (pending c)
+    pub going_given : (taken : Taken) (next : List ℕ) (to : ℕ) → i < length input → get_or input i 0 ≡ NEWLINE → (length c.part ≡ 0 → ⊥) → taken ≡ taken_of c.unit c.part
         → to ≡ put_place ANSWER output w (answer_text taken.event) → next ≡ put_text ANSWER output w (answer_text taken.event)
-        → Going c₀ input output₀ (record { unit = taken.unit; held = 0; bytes = c.bytes }) next (i + 1) to
+        → Going c₀ input output₀ (record { unit = taken.unit; part = [] }) next (i + 1) to
     going_given taken next to h e n r p t =
-        let some = line_given c.unit (pending c) n in
+        let some = line_given c.unit c.part n in
         let there = put_there ANSWER output w (answer_text taken.event) (omega (arith, room)) in
-        let unit : taken.unit ≡ unit_after c.unit (pending c) = ap (λ (a : Taken). a.unit) r ∙ sym some.1 in
-        let text : answer_text taken.event ≡ printed (answer_to c.unit (pending c)) = ap (λ (a : Taken). answer_text a.event) r ∙ ap printed (sym some.0) in
+        let unit : taken.unit ≡ unit_after c.unit c.part = ap (λ (a : Taken). a.unit) r ∙ sym some.1 in
+        let text : answer_text taken.event ≡ printed (answer_to c.unit c.part) = ap (λ (a : Taken). answer_text a.event) r ∙ ap printed (sym some.0) in
         rw (p ∙ there.0, t ∙ there.1) (going_line taken.unit (answer_text taken.event) h e unit text)
 
   pub going_made : {c : Console} {output : List ℕ} {i w : ℕ} → Reached c₀ → Going c₀ input output₀ c output i w → Reached c

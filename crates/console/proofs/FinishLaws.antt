@@ -6,21 +6,20 @@ use mathlib.Core.List.{List, [], ◌∷◌, ◌++◌, append_assoc, append-nil}
 use native.Mathlib.Omega.{arith}
 use borrow.Author.Tests.{eq-eqb, ne_eqb, eqb-false, lt-ltb, le-ltb}
 use lib.ListN.{length, take, length-append}
-use lib.Seq.{length-take-le}
 use Rattle.food_line.specs.Fields.{line_length}
 use Rattle.unit.specs.Take.{taken_of}
 use Rattle.unit.specs.Status.{status_of}
-use Rattle.unit.specs.declared.Taken.{Taken}
+use Rattle.unit.specs.Taken.{Taken}
 use Rattle.unit.specs.declared.Unit as U
 use Rattle.reply.specs.declared.report.Report.{Report}
-use Rattle.console.specs.declared.Console.{Console}
+use Rattle.console.specs.declared.Contents.{Contents as Console}
 use Rattle.text.specs.Text.{NEWLINE, answer_text, status_text}
 use Rattle.console.specs.Lines.{ended, rest, last_line, lines_of}
 use Rattle.console.specs.Transcript.{answers, unit_after_all, printed_all, text_of, transcript}
 use Rattle.text.specs.Buffer.{with_text, SameFrom, put_text, put_place}
 use Rattle.text.specs.bounds.Room.{ANSWER, STATUS}
 use Rattle.console.specs.bounds.Room.{FINAL}
-use Rattle.console.specs.State.{HELD, pending}
+use Rattle.console.specs.Held.{HELD}
 use Rattle.console.specs.Stands.{Stands}
 use Rattle.console.specs.Feed.{takes, fed_of, fed_buffer}
 use Rattle.console.specs.Finish.{nothing_held, last_unit, last_text, final_text, finished_of, finished_buffer, Completes, FinishKept}
@@ -36,20 +35,19 @@ module _ (c : Console) where
   unfolding last_unit last_text
   last_none t = (rw t, rw t)
 
-  pub last_some : nothing_held c ≡ false → (last_unit c ≡ (taken_of c.unit (pending c)).unit) × (last_text c ≡ answer_text (taken_of c.unit (pending c)).event)
+  pub last_some : nothing_held c ≡ false → (last_unit c ≡ (taken_of c.unit c.part).unit) × (last_text c ≡ answer_text (taken_of c.unit c.part).event)
   unfolding last_unit last_text
   last_some t = (rw t, rw t)
 
   -- a line under way ends as its newline would end it
-  pub ended_by_newline : (output : List ℕ) → c.held ≤ length c.bytes → nothing_held c ≡ false → STATUS ≤ length output
+  pub ended_by_newline : (output : List ℕ) → nothing_held c ≡ false → STATUS ≤ length output
       → ((fed_of c (NEWLINE ∷ []) (length output)).console.unit ≡ last_unit c)
       × ((fed_of c (NEWLINE ∷ []) (length output)).written ≡ length (last_text c))
       × (fed_buffer c (NEWLINE ∷ []) output ≡ with_text output 0 (last_text c))
   unfolding takes
-  ended_by_newline output f n h =
+  ended_by_newline output n h =
       let some = last_some n in
-      let size = length-take-le c.held c.bytes f in
-      let line = line_given c.unit (pending c) (λ e. eqb-false c.held 0 n (sym size ∙ e)) in
+      let line = line_given c.unit c.part (eqb-false (length c.part) 0 n) in
       let step = step_newline c NEWLINE refl in
       rw (le-ltb (length output) STATUS h, some.0, some.1, step.0, step.1, line.0, line.1, append-nil) (refl, refl, refl)
 
@@ -57,21 +55,18 @@ module _ (c : Console) where
   unfolding last_text
   last_length = go (nothing_held c)
     where
-      go : (b : Bool) → length (cond b [] (answer_text (taken_of c.unit (pending c)).event)) ≤ ANSWER
+      go : (b : Bool) → length (cond b [] (answer_text (taken_of c.unit c.part).event)) ≤ ANSWER
       go true = omega arith
-      go false = omega (arith, answer_length (taken_of c.unit (pending c)).event)
+      go false = omega (arith, answer_length (taken_of c.unit c.part).event)
 
   -- what is held is the unended line, if there is one
-  last_is : (p : List ℕ) → c.held ≤ HELD → length c.bytes ≡ HELD → pending c ≡ take HELD p
+  last_is : (p : List ℕ) → c.part ≡ take HELD p
       → (last_text c ≡ printed_all (answers c.unit (last_line p))) × (last_unit c ≡ unit_after_all c.unit (last_line p))
-  last_is [] f s e =
-      let long : c.held ≡ 0 = sym (length-take-le c.held c.bytes (omega arith)) ∙ ap length e in
-      let none = last_none (eq-eqb c.held 0 long) in
-      (none.1, none.0)
-  last_is (x ∷ p) f s e =
-      let long : c.held ≡ suc (length (take line_length p)) = sym (length-take-le c.held c.bytes (omega arith)) ∙ ap length e in
-      let some = last_some (ne_eqb c.held 0 (λ z. omega arith)) in
-      let same : taken_of c.unit (pending c) ≡ taken_of c.unit (x ∷ p) = ap (taken_of c.unit) e ∙ taken_cut c.unit (x ∷ p) in (
+  last_is [] e = let none = last_none (eq-eqb (length c.part) 0 (ap length e)) in (none.1, none.0)
+  last_is (x ∷ p) e =
+      let long : length c.part ≡ suc (length (take line_length p)) = ap length e in
+      let some = last_some (ne_eqb (length c.part) 0 (λ z. omega arith)) in
+      let same : taken_of c.unit c.part ≡ taken_of c.unit (x ∷ p) = ap (taken_of c.unit) e ∙ taken_cut c.unit (x ∷ p) in (
         some.1 ∙ ap (λ (t : Taken). answer_text t.event) same ∙ sym (append-nil (answer_text (taken_of c.unit (x ∷ p)).event)),
         some.0 ∙ ap (λ (t : Taken). t.unit) same,
       )
@@ -80,7 +75,7 @@ module _ (c : Console) where
   final_transcript u input s =
       let v = unit_after_all u (ended input) in
       let last = last_line (rest input) in
-      let here = last_is (rest input) s.fits s.size s.part in
+      let here = last_is (rest input) s.part in
       let text : last_text c ≡ printed_all (answers v last) = here.0 ∙ ap (λ (w : U.Unit). printed_all (answers w last)) s.unit in
       let unit : last_unit c ≡ unit_after_all u (lines_of input) =
       here.1 ∙ ap (λ (w : U.Unit). unit_after_all w last) s.unit ∙ sym (unit_append u (ended input) last) in
@@ -94,13 +89,12 @@ module _ (c : Console) where
 module _ (c : Console) (output : List ℕ) where
   abbrev pub Finished : ℕ → List ℕ → Type 0
   Finished r exit =
-      (r ≡ finished_of c (length output))
-      × ((exit ≡ finished_buffer c output) × ((r ≤ length exit) × (Completes c output exit r × FinishKept output exit r)))
+      (r ≡ finished_of c (length output)) × (exit ≡ finished_buffer c output) × (r ≤ length exit) × Completes c output exit r × FinishKept output exit r
 
   pub finished_short : length output < FINAL → Finished 0 output
   finished_short h =
       let t = lt-ltb (length output) FINAL h in
-      (rw t, (rw t, (omega arith, (λ u input s l. absurd (omega arith), record { behind = refl; output = λ (none : ◌≡◌ {A = ℕ} 0 0). refl }))))
+      (rw t, rw t, omega arith, λ u input s l. absurd (omega arith), record { behind = refl; output = λ (none : ◌≡◌ {A = ℕ} 0 0). refl })
 
   pub last_room : (middle : List ℕ) (w : ℕ) → FINAL ≤ length output → w ≡ length (last_text c) → middle ≡ with_text output 0 (last_text c)
       → w + STATUS ≤ length middle
@@ -122,16 +116,10 @@ module _ (c : Console) (output : List ℕ) where
       let behind : SameFrom r output exit = rw (buffer, whole) (with_text_behind output (final_text c)) in
       let no = le-ltb (length output) FINAL h in (
         rw no whole,
-        (
-          rw no buffer,
-          (
-            rw (buffer, whole) (omega (arith, with_text_length output 0 (final_text c) fits, fits)),
-            (
-              λ v input s l. rw (whole, buffer, with_text_front output (final_text c)) (final_transcript c v input s),
-              record { behind = behind; output = λ (none : r ≡ 0). rw none at behind },
-            ),
-          ),
-        ),
+        rw no buffer,
+        rw (buffer, whole) (omega (arith, with_text_length output 0 (final_text c) fits, fits)),
+        λ v input s l. rw (whole, buffer, with_text_front output (final_text c)) (final_transcript c v input s),
+        record { behind = behind; output = λ (none : r ≡ 0). rw none at behind },
       )
 
   -- the status is put behind the last line's answer

@@ -3,12 +3,10 @@ use Prim.Native.Nat.{ℕ}
 use mathlib.Core.Path.{refl, sym, ap}
 use mathlib.Core.List.{List, [], ◌∷◌}
 use Rattle.reply.specs.declared.event.Event.{Event}
-use Rattle.unit.specs.Reached.{Reached as ReachedUnit}
 use Rattle.unit.specs.Take.{taken_of, new_of}
 use Rattle.unit.specs.declared.Unit as U
 use Rattle.unit.proofs.Claimed.{claim_holds}
 use Rattle.unit.proofs.Long.{refused_empty}
-use Rattle.unit.proofs.Reach.{reached_after}
 use Rattle.console.specs.Lines.{lines_of, given}
 use Rattle.console.specs.Transcript.{unit_after_all}
 use Rattle.console.specs.Given.{DroppedIs, EmptyRefused, ClaimThere}
@@ -19,10 +17,6 @@ dropped u ([] ∷ ls) = let rest = dropped u ls in record { events = rest.events
 dropped u ((x ∷ l) ∷ ls) =
     let rest = dropped (taken_of u (x ∷ l)).unit ls in
     record { events = ap (λ (es : List Event). (taken_of u (x ∷ l)).event ∷ es) rest.events; unit = rest.unit }
-
--- the unit after lines of an input is one that our calls made
-pub reached_lines : (u : U.Unit) (ls : List (List ℕ)) → ReachedUnit u → ReachedUnit (unit_after_all u ls)
-reached_lines u ls r = rw (dropped u ls).unit (reached_after u (given ls) r)
 
 pub empty_refused : EmptyRefused
 empty_refused u = refused_empty u

@@ -3,6 +3,7 @@ pub mod LineLaws
 pub mod SplitLaws
 pub mod GivenLaws
 pub mod AnswerLaws
+pub mod HeldLaws
 pub mod StandLaws
 pub mod PartLaws
 pub mod KeptLaws

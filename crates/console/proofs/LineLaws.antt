@@ -12,13 +12,13 @@ use lib.Seq.{take_all, length-take-le}
 use Rattle.laws.proofs.Bools.{either}
 use Rattle.unit.specs.Take.{taken_of}
 use Rattle.unit.proofs.Long.{refused_long}
-use Rattle.unit.specs.declared.Taken.{Taken}
+use Rattle.unit.specs.Taken.{Taken}
 use Rattle.unit.specs.declared.Unit as U
 use Rattle.text.specs.Text.{NEWLINE}
 use Rattle.console.specs.Lines.{ended_after, rest_after}
 use Rattle.console.specs.Answer.{told, answer_to, unit_after, printed}
 use Rattle.console.specs.Transcript.{answers, unit_after_all, printed_all}
-use Rattle.console.specs.State.{HELD}
+use Rattle.console.specs.Held.{HELD}
 
 -- ---- a newline ends the line; any other byte is one more of it
 

@@ -9,12 +9,13 @@ use Rattle.laws.proofs.Bools.{and_both}
 use native.Mathlib.Omega.{arith}
 use lib.ListN.{length, take, drop, length-drop, drop_of_length-le, take-append-drop}
 use Rattle.unit.specs.declared.Unit as U
-use Rattle.console.specs.declared.Console.{Console}
+use Rattle.console.specs.declared.Contents.{Contents as Console}
 use Rattle.unit.specs.Status.{status_of}
 use Rattle.text.specs.Text.{NEWLINE, status_text}
 use Rattle.console.specs.Lines.{ended_after, rest_after, ended, lines_of}
 use Rattle.console.specs.Transcript.{answers, unit_after_all, printed_all, text_of, transcript}
-use Rattle.console.specs.State.{HELD, new_console, console_after, text_after}
+use Rattle.console.specs.Held.{HELD}
+use Rattle.console.specs.State.{new_console, console_after, text_after}
 use Rattle.console.specs.Stands.{Stands}
 use Rattle.console.specs.Finish.{nothing_held, final_text}
 use Rattle.console.specs.Given.{ShownThere}
@@ -22,7 +23,7 @@ use Rattle.text.specs.bounds.Room.{STATUS}
 use Rattle.console.specs.Feed.{takes, taken_bytes}
 use Rattle.console.specs.Pieces.{joined, written_in, Lent, taken_by, taken_by_all, roomy, enough, comes, WhateverPieces, WhateverRooms, GoesOn}
 use Rattle.console.proofs.FeedLaws.{takes_some}
-use Rattle.console.proofs.StandLaws.{stands_new, held_is, stands_after}
+use Rattle.console.proofs.StandLaws.{stands_new, none_held, stands_after}
 use Rattle.console.proofs.FinishLaws.{final_transcript}
 
 from : (c : Console) (u : U.Unit) (before : List ℕ) (pieces : List (List ℕ)) → Stands c u before
@@ -81,7 +82,7 @@ rooms u lent e = pieces u (taken_by_all (new_console u) lent) ∙ ap (transcript
 stands_anew : (c : Console) (u : U.Unit) (before : List ℕ) → Stands c u before → nothing_held c ≡ true → Stands c c.unit []
 unfolding ended_after rest_after
 stands_anew c u before s n =
-    record { unit = refl; fits = s.fits; size = s.size; part = ap (λ (k : ℕ). take k c.bytes) (eqb-true c.held 0 n) }
+    record { unit = refl; part = none_held c.part (eqb-true (length c.part) 0 n) }
 
 pub goes_on : GoesOn
 unfolding ended_after
@@ -103,6 +104,6 @@ shown_there u before more e =
     let s = (stands_after (new_console u) u [] before (stands_new u)).0 in
     let v = unit_after_all u (ended before) in
     let status = status_text (status_of v) in
-    let nothing : c.held ≡ 0 = held_is c u before s ∙ ap (λ (l : List ℕ). length (take HELD l)) e in
-    goes_on c u before (NEWLINE ∷ more) s (eq-eqb c.held 0 nothing)
+    let nothing : length c.part ≡ 0 = ap length (s.part ∙ ap (take HELD) e) in
+    goes_on c u before (NEWLINE ∷ more) s (eq-eqb (length c.part) 0 nothing)
     ∙ rw (s.unit, e, append-nil (ended before), append_assoc (text_of u before) status (transcript v more), append_assoc status (printed_all (answers v (lines_of more))) (status_text (status_of (unit_after_all v (lines_of more)))))

@@ -6,7 +6,7 @@ use Rattle.text.specs.Buffer.{with_text, SameFrom}
 use Rattle.console.specs.State.{stepped_of, step_text, accepts, console_after, text_after}
 use Rattle.console.specs.Stands.{Stands}
 use Rattle.console.specs.Transcript.{text_of}
-use Rattle.console.specs.declared.Console.{Console}
+use Rattle.console.specs.declared.Contents.{Contents as Console}
 use Rattle.console.specs.declared.Fed.{Fed}
 
 -- how many bytes are taken: all, or as many as come while there is room for one more answer, the longest of which is a status

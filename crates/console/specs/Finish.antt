@@ -6,21 +6,20 @@ use Rattle.unit.specs.declared.Unit as U
 use Rattle.text.specs.Text.{answer_text, status_text}
 use Rattle.console.specs.bounds.Room.{FINAL}
 use Rattle.text.specs.Buffer.{with_text, SameFrom}
-use Rattle.console.specs.State.{pending}
 use Rattle.console.specs.Stands.{Stands}
 use Rattle.console.specs.Transcript.{text_of, transcript}
-use Rattle.console.specs.declared.Console.{Console}
+use Rattle.console.specs.declared.Contents.{Contents as Console}
 
 -- the last line is ended, or empty
 abbrev pub nothing_held : Console → Bool
-nothing_held c = eqb c.held 0
+nothing_held c = eqb (length c.part) 0
 
 -- the end of the input: an unended last line is taken if not empty
 unfoldable pub last_unit : Console → U.Unit
-last_unit c = cond (nothing_held c) c.unit (taken_of c.unit (pending c)).unit
+last_unit c = cond (nothing_held c) c.unit (taken_of c.unit c.part).unit
 
 unfoldable pub last_text : Console → List ℕ
-last_text c = cond (nothing_held c) [] (answer_text (taken_of c.unit (pending c)).event)
+last_text c = cond (nothing_held c) [] (answer_text (taken_of c.unit c.part).event)
 
 -- its answer, and the status
 abbrev pub final_text : Console → List ℕ

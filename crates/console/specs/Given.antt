@@ -3,7 +3,7 @@
 use Rattle.std.specs.Prelude.{ℕ, ◌≡◌, List, [], ◌∷◌, ◌++◌, map}
 use Rattle.difference.specs.declared.category.Category.{Category}
 use Rattle.reply.specs.declared.event.Event.{Event}
-use Rattle.rows.specs.Refusal.{LENGTH}
+use Rattle.rows.specs.declared.refusal.Refusal.TheVariants.{Length}
 use Rattle.unit.specs.Claim.{Step, history_from, ClaimOf}
 use Rattle.unit.specs.Reached.{after}
 use Rattle.unit.specs.Status.{status_of}
@@ -40,7 +40,7 @@ ShownThere = (u : U.Unit) (before more : List ℕ) → rest before ≡ []
 
 -- Below the program a line of length 0 is refused with 1, by any unit that is given it.
 abbrev pub EmptyRefused : Type 0
-EmptyRefused = (u : U.Unit) → taken_of u [] ≡ refused_of u LENGTH
+EmptyRefused = (u : U.Unit) → taken_of u [] ≡ refused_of u Length
 
 -- Demand 3 of the status that the program shows after an input, and so, by `ShownThere`, at an empty line there: it is about the lines so far that are not
 -- empty.

@@ -4,6 +4,7 @@ pub mod Answer
 pub mod Transcript
 pub mod Given
 pub mod bounds
+pub mod Held
 pub mod State
 pub mod Stands
 pub mod Feed

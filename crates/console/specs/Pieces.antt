@@ -9,7 +9,7 @@ use Rattle.console.specs.State.{new_console, console_after, text_after}
 use Rattle.console.specs.Stands.{Stands}
 use Rattle.console.specs.Feed.{takes, taken_bytes}
 use Rattle.console.specs.Finish.{nothing_held, final_text}
-use Rattle.console.specs.declared.Console.{Console}
+use Rattle.console.specs.declared.Contents.{Contents as Console}
 
 abbrev pub joined : List (List ℕ) → List ℕ
 joined [] = []

@@ -1,18 +1,16 @@
--- Which unit and input a console stands for. It is the one premise of the console's contracts that there are such.
-use Rattle.std.specs.Prelude.{ℕ, ◌≤◌, ◌≡◌, List, length, take}
+-- Which unit and input a console stands for. Every console stands for some: the type says so.
+use Rattle.std.specs.Prelude.{ℕ, ◌≡◌, List, take}
 use Rattle.unit.specs.Reached.{Reached as ReachedUnit}
 use Rattle.unit.specs.declared.Unit as U
 use Rattle.console.specs.Lines.{ended, rest}
 use Rattle.console.specs.Transcript.{unit_after_all}
-use Rattle.console.specs.State.{HELD, pending}
-use Rattle.console.specs.declared.Console.{Console}
+use Rattle.console.specs.Held.{HELD}
+use Rattle.console.specs.declared.Contents.{Contents as Console}
 
 -- the console stands for a unit and an input given to it: its unit took the lines that the input ended, but for the empty ones, and it holds what followed, up to 69 bytes
 pub record Stands (c : Console) (u : U.Unit) (input : List ℕ) : Type 0 where
   pub unit : c.unit ≡ unit_after_all u (ended input)
-  pub fits : c.held ≤ HELD
-  pub size : length c.bytes ≡ HELD
-  pub part : pending c ≡ take HELD (rest input)
+  pub part : c.part ≡ take HELD (rest input)
 
 -- a console that some input leads to, from a unit that our calls made
 abbrev pub Reached : Console → Type 0

@@ -11,6 +11,6 @@ const TESTED: u8 = 4;
 // gives the status. It lends nothing and hands back the error, if a read or a write failed, and no
 // contract can speak of what is read and written.
 pub fn run(rt: &(impl Input + Print)) -> io::Result<()> {
-    let made = unit::new_residue_unit(TESTED);
-    terminal::run(rt, made.unit)
+    let unit = unit::new_residue_unit(TESTED).unwrap();
+    terminal::run(rt, unit)
 }

@@ -1,16 +1,20 @@
 -- A text put into a buffer, and more put behind it. Assumes nothing.
-use Prim.Native.Nat.{ℕ, suc, ◌+◌, ◌*◌, ◌/◌, ◌%◌, ◌<◌, ◌≤◌}
+use Prim.Native.Nat.{ℕ, suc, ◌+◌, ◌*◌, ◌/◌, ◌%◌, ◌-◌, ◌<◌, ◌≤◌}
 use mathlib.Core.Path.{◌≡◌, refl, sym, ap, ◌∙◌}
 use mathlib.Core.List.{List, [], ◌∷◌, ◌++◌, append_assoc, append-nil}
 use native.Mathlib.Omega.{arith}
 use lib.ListN.{length, get_or, set, take, drop, length-append, length-drop, take-append-drop}
-use lib.Seq.{take-suc, drop-cons, append_snoc, set_at, take_at, drop_at, drop-append-add, length-take-le, drop-drop}
+use lib.Seq.{take-suc, drop-cons, append_snoc, set_at, take_at, drop_at, drop-append-add, length-take-le, drop-drop, take_all}
 use native.Mathlib.Nat.{zero-add}
+use Rattle.std.proofs.lemmas.List.{drop_all}
 use native.Mathlib.Numerals.{add-one}
-use Rattle.digits.specs.Digits.{digit_of, digits_of}
+use borrow.Rule.Slice.PartMut.{put_mid}
+use Rattle.digits.specs.Digits.{digits_of}
+use borrow.Author.Tests.{le-leb}
+use Rattle.digits.specs.Slices.{has_room, digits_after}
 use Rattle.digits.proofs.ByteLaws.{length_digits_of, digits_of_append}
 use Rattle.text.specs.Buffer.{with_text, SameFrom}
-use Rattle.text.specs.Text.{line_text}
+use Rattle.text.specs.Text.{NEWLINE, line_text}
 
 module _ (l : List ℕ) (at : ℕ) where
   pub front_length : (t : List ℕ) → at ≤ length l → length (take at l ++ t) ≡ at + length t
@@ -45,6 +49,44 @@ module _ (l : List ℕ) (at : ℕ) where
       ∙ ap (λ (r : List ℕ). r ++ drop (n + length s) l) (append_assoc (take at l) t s)
       ∙ ap (λ (m : ℕ). take at l ++ (t ++ s) ++ drop m l) (sym longer)
 
+-- ---- a text put at the start of the part of a buffer from `at` on is put into the buffer there
+
+take_none : (l : List ℕ) → take 0 l ≡ []
+take_none [] = refl
+take_none (x ∷ l) = refl
+
+module _ (l : List ℕ) (at : ℕ) where
+  cut_is : take (length l - at) (drop at l) ≡ drop at l
+  cut_is = take_all (length l - at) (drop at l) (simp length-drop (omega arith))
+
+  none_behind : drop (length l - at) (drop at l) ≡ []
+  none_behind = drop_all (length l - at) (drop at l) (simp length-drop (omega arith))
+
+  pub cut_length : length (take (length l - at) (drop at l)) ≡ length l - at
+  cut_length = ap length cut_is ∙ length-drop at l
+
+  pub put_in_cut : (t : List ℕ) → put_mid at (length l - at) l (with_text (take (length l - at) (drop at l)) 0 t) ≡ with_text l at t
+  put_in_cut t =
+      rw (
+        none_behind,
+        cut_is,
+        take_none (drop at l),
+        zero-add (length t),
+        drop-drop (length t) at l,
+        append-nil (t ++ drop (at + length t) l),
+        append_assoc (take at l) t (drop (at + length t) l),
+      )
+
+-- a text and then another, each at the start of the part behind
+pub put_two : (l : List ℕ) (at : ℕ) (t s : List ℕ) (end : ℕ) → end ≡ length t → at + length t + length s ≤ length l
+    → let part = take (length l - at) (drop at l) in let first = with_text part 0 t in
+    put_mid at (length l - at) l (put_mid end (length first - end) first (with_text (take (length first - end) (drop end first)) 0 s)) ≡ with_text l at (t ++ s)
+put_two l at t s end e h =
+    let part = take (length l - at) (drop at l) in
+    let behind : end ≡ 0 + length t = omega arith in
+    let fits : 0 + length t + length s ≤ length part = omega (arith, cut_length l at) in
+    ap (put_mid at (length l - at) l) (put_in_cut (with_text part 0 t) end s ∙ rw behind (with_text_append part 0 t s fits)) ∙ put_in_cut l at (t ++ s)
+
 -- what was written stands before the rest, which is as it was
 pub with_text_front : (l t : List ℕ) → take (length t) (with_text l 0 t) ≡ t
 with_text_front l t = take_at t (drop (0 + length t) l) (length t) refl
@@ -52,23 +94,18 @@ with_text_front l t = take_at t (drop (0 + length t) l) (length t) refl
 pub with_text_behind : (l t : List ℕ) → SameFrom (length t) l (with_text l 0 t)
 with_text_behind l t = drop_at t (drop (0 + length t) l) (length t) refl ∙ rw zero-add
 
--- ---- the digits of bytes, put one after the other
+-- ---- the digits of bytes, put one after the other from the start
 
-pub digits_length : (bytes : List ℕ) (i : ℕ) → i ≤ length bytes → length (digits_of (take i bytes)) ≡ 2 * i
+digits_length : (bytes : List ℕ) (i : ℕ) → i ≤ length bytes → length (digits_of (take i bytes)) ≡ 2 * i
 digits_length bytes i h = length_digits_of (take i bytes) ∙ ap (λ (n : ℕ). 2 * n) (length-take-le i bytes h)
 
-pub digits_more : (l bytes : List ℕ) (at i to h d : ℕ) → i < length bytes → to ≡ at + 2 * i → at + 2 * i + 1 < length l
-    → h ≡ digit_of (get_or bytes i 0 / 16) → d ≡ digit_of (get_or bytes i 0 % 16)
-    → set (set (with_text l at (digits_of (take i bytes))) to h) (to + 1) d ≡ with_text l at (digits_of (take (i + 1) bytes))
-unfolding digits_of
-digits_more l bytes at i to h d p e q f g =
-    let D = digits_of (take i bytes) in
-    let long : length D ≡ 2 * i = digits_length bytes i (omega arith) in
-    let here : to ≡ at + length D = omega arith in
-    let there : to + 1 ≡ at + length (D ++ h ∷ []) = simp length-append (omega arith) in
-    let digits : D ++ h ∷ [] ++ d ∷ [] ≡ digits_of (take (i + 1) bytes) =
-    append_assoc D (h ∷ []) (d ∷ []) ∙ rw (add-one i, take-suc bytes i 0 p, digits_of_append (take i bytes) (get_or bytes i 0 ∷ []), f, g) in
-    rw (there, here, with_text_set l at D h (omega arith), with_text_set l at (D ++ h ∷ []) d (omega arith), digits)
+-- where there is room, the digits and then a newline are the line
+pub line_put : (l bytes : List ℕ) → 2 * length bytes < length l → set (digits_after bytes l) (2 * length bytes) NEWLINE ≡ with_text l 0 (line_text bytes)
+unfolding digits_after has_room
+line_put l bytes h =
+    let D = digits_of bytes in
+    let here : 2 * length bytes ≡ 0 + length D = omega (arith, length_digits_of bytes) in
+    rw (le-leb (2 * length bytes) (length l) (omega arith), here) (with_text_set l 0 D NEWLINE (omega (arith, length_digits_of bytes)))
 
 pub line_length_lem : (bytes : List ℕ) → length (line_text bytes) ≡ 2 * length bytes + 1
 line_length_lem bytes = simp (length-append, length_digits_of)

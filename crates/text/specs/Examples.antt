@@ -5,10 +5,12 @@ use Rattle.reply.specs.Report.{no_report}
 use Rattle.reply.specs.declared.event.Event.TheVariants.{Refused, UnderWay, ByMisses, ByMisidentifications}
 use Rattle.reply.specs.declared.report.Report.{Report}
 use Rattle.reply.specs.declared.report.ChartReport.{ChartReport}
+use Rattle.reply.specs.declared.stage.Stage.TheVariants.{Probation}
+use Rattle.rows.specs.declared.refusal.Refusal.TheVariants.{Length}
 use Rattle.text.specs.Text.{answer_text, chart_text, run_texts, status_text}
 
 -- 0001, 030c, 0700, 0800
-answers : (answer_text (Refused 1) ≡ 48 ∷ 48 ∷ 48 ∷ 49 ∷ 10 ∷ []) × (answer_text (UnderWay 12) ≡ 48 ∷ 51 ∷ 48 ∷ 99 ∷ 10 ∷ [])
+answers : (answer_text (Refused Length) ≡ 48 ∷ 48 ∷ 48 ∷ 49 ∷ 10 ∷ []) × (answer_text (UnderWay 12) ≡ 48 ∷ 51 ∷ 48 ∷ 99 ∷ 10 ∷ [])
     × (answer_text ByMisses ≡ 48 ∷ 55 ∷ 48 ∷ 48 ∷ 10 ∷ []) × (answer_text ByMisidentifications ≡ 48 ∷ 56 ∷ 48 ∷ 48 ∷ 10 ∷ [])
 unfolding digits_of digit_of
 answers = (refl, refl, refl, refl)
@@ -22,7 +24,7 @@ under = record { over = true; first = 1; last = 1; value = negsuc 1 }
 
 report : Report
 unfolding run under
-report = record { stage = 3; samples = 258; mask = 514; misses = true; charts = no_report ∷ run ∷ replicate 7 no_report ++ under ∷ replicate 6 no_report }
+report = record { stage = Probation; samples = 258; mask = 514; misses = true; charts = no_report ∷ run ∷ replicate 7 no_report ++ under ∷ replicate 6 no_report }
 
 status : status_text report
     ≡ digits_of (3 ∷ 1 ∷ 2 ∷ 2 ∷ 2 ∷ 1 ∷ []) ++ 10 ∷ [] ++ digits_of (1 ∷ 0 ∷ 3 ∷ 1 ∷ 2 ∷ 0 ∷ 1 ∷ 2 ∷ 3 ∷ []) ++ 10 ∷ []

@@ -5,6 +5,7 @@ use Rattle.digits.specs.Numbers.{number_bytes}
 use Rattle.digits.specs.Signed.{signed_bytes}
 use Rattle.difference.specs.Contribution.{CHARTS}
 use Rattle.reply.specs.Report.{bit_at, no_report}
+use Rattle.reply.specs.Stage.{stage_byte}
 use Rattle.reply.specs.Event.{event_byte, number_byte}
 use Rattle.reply.specs.declared.event.Event.{Event}
 use Rattle.reply.specs.declared.report.ChartReport.{ChartReport}
@@ -31,7 +32,7 @@ misses_byte false = 0
 
 -- stage 1 byte, samples in the stretch 2, mask of charts over 2, misses 1
 abbrev pub stage_bytes : Report → List ℕ
-stage_bytes r = r.stage ∷ number_bytes 2 r.samples ++ number_bytes 2 r.mask ++ misses_byte r.misses ∷ []
+stage_bytes r = stage_byte r.stage ∷ number_bytes 2 r.samples ++ number_bytes 2 r.mask ++ misses_byte r.misses ∷ []
 
 -- chart 1 byte, first sample 2, last 2, value 4, in two's complement
 abbrev pub run_bytes : ℕ → ChartReport → List ℕ

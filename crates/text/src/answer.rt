@@ -5,7 +5,7 @@ ghost use Rattle.text.specs.Text.{event_bytes, answer_text};
 ghost use Rattle.text.specs.bounds.Room.{ANSWER as ANSWER_ROOM};
 ghost use Rattle.text.specs.Buffer.{put_text, put_place};
 
-use crate::hex::put_line;
+use crate::line::put_line;
 use crate::room::has_room;
 use reply::event::Event;
 
@@ -17,7 +17,7 @@ fn bytes_of(event: Event) -> [u8; 2]
     ensures { result ≡ event_bytes event }
 {
     match event {
-        Event::Refused(n) => [0, n],
+        Event::Refused(refusal) => [0, u8::from(refusal)],
         Event::Sample => [1, 0],
         Event::Missed => [2, 0],
         Event::UnderWay(n) => [3, n],
@@ -30,14 +30,14 @@ fn bytes_of(event: Event) -> [u8; 2]
 }
 
 // Puts an event into the buffer, from `at` on, and gives the place after it. Where there
-// is no room for it nothing changes.
+// is no room for it nothing changes, and `at` is handed back. Buffer and place are two, since all of the
+// buffer is promised.
 pub fn put_answer(event: Event, buffer: &mut [u8], at: usize) -> usize
     ensures place { result ≡ put_place ANSWER_ROOM buffer.old at (answer_text event) }
     ensures text { buffer.new ≡ put_text ANSWER_ROOM buffer.old at (answer_text event) }
 {
     if has_room(buffer.len(), at, ANSWER) {
-        let bytes = bytes_of(event);
-        put_line(&bytes, buffer, at)
+        at + put_line(&bytes_of(event), &mut buffer[at..])
     } else {
         at
     }

@@ -2,7 +2,7 @@
 
 // The text of events and reports, put into a buffer.
 pub mod answer;
-mod hex;
+mod line;
 pub mod report;
 mod room;
 

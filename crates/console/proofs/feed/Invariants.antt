@@ -6,7 +6,7 @@ use Rattle.console.proofs.feed.Given as goal
 
 abbrev pub invariant-loop-taken : goal.invariant-loop-taken
 invariant-loop-taken l =
-    Reached l.fn.start × Going l.fn.start l.input l.fn.output (record { unit = l.unit; held = l.held; bytes = l.bytes }) l.output l.taken l.written
+    Reached l.fn.start × Going l.fn.start l.input l.fn.output (record { unit = l.unit; part = l.part }) l.output l.taken l.written
 
 abbrev pub decreases-loop-taken : goal.decreases-loop-taken
 decreases-loop-taken l = length l.input - l.taken

@@ -1,9 +1,8 @@
--- The compound is not refused, so the unit is one that our calls made.
-use Rattle.std.proofs.Common.{ap}
+-- The compound is not refused, so there is a unit.
+use Rattle.std.proofs.Common.{refl}
 use Rattle.field.specs.Residue.{no_compound}
-use Rattle.unit.specs.declared.Made.{Made}
 use Rattle.residue_program.proofs.run.Goals as goal
 
-pub run-requires : goal.run-requires
+pub unwrap-unit-requires : goal.unwrap-unit-requires
 unfolding no_compound
-run-requires g c = c.new_residue_unit-made.ensures.reached (ap (λ (m : Made). m.refusal) c.new_residue_unit-made.ensures.whole)
+unwrap-unit-requires g c = rw c.new_residue_unit.ensures.whole refl

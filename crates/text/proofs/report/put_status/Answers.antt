@@ -1,33 +1,42 @@
 -- `put_status` meets its contract: the charts' lines stand behind the status line, where there is room for all.
-use Rattle.std.proofs.Common.{◌+◌, ◌≤◌, length, sym, ◌∙◌, arith}
+use Rattle.std.proofs.Common.{◌+◌, ◌≤◌, length, sym, ◌∙◌, arith, length-append}
 use borrow.Author.Tests.{leb-true}
-use Rattle.text.specs.Text.{stage_bytes, status_text}
+use Rattle.difference.specs.Contribution.{CHARTS}
+use Rattle.text.specs.Text.{line_text, stage_bytes, run_texts, status_text}
 use Rattle.text.specs.bounds.Room.{STATUS}
-use Rattle.text.proofs.BufferLaws.{line_length_lem}
+use Rattle.text.proofs.BufferLaws.{cut_length, put_two, line_length_lem}
 use Rattle.text.proofs.PutLaws.{put_yes, put_no}
-use Rattle.text.proofs.StatusLaws.{status_room, status_put}
+use Rattle.text.proofs.StatusLaws.{runs_length}
 use Rattle.text.proofs.report.put_status.Goals as goal
 
-pub put_line-to-requires : goal.put_line-to-requires
-put_line-to-requires c =
+pub put_line-end-requires : goal.put_line-end-requires
+put_line-end-requires c =
     let room : c.args.at + STATUS ≤ length c.args.buffer.now = leb-true _ _ (sym c.has_room.ensures ∙ c.if-has_room.true) in
-    rw c.stage_bytes-bytes.ensures (omega (arith, line_length_lem (stage_bytes c.args.report)))
+    rw (c.stage_bytes.ensures, cut_length c.args.buffer.now c.args.at) (omega (arith, line_length_lem (stage_bytes c.args.report)))
 
 pub put_charts-requires : goal.put_charts-requires
 put_charts-requires c =
     let room : c.args.at + STATUS ≤ length c.args.buffer.now = leb-true _ _ (sym c.has_room.ensures ∙ c.if-has_room.true) in
-    let bytes = c.stage_bytes-bytes.ensures in
-    status_room c.args.report c.args.buffer.now _ c.args.at _ room (rw bytes at c.put_line-to.ensures.place) (rw bytes at c.put_line-to.ensures.text)
+    let end = rw c.stage_bytes.ensures at c.put_line-end.ensures.place in
+    rw (cut_length c.put_line-end.new.room c.put_line-end.result)
+    (omega (arith, c.put_line-end.auto.room, cut_length c.args.buffer.now c.args.at, end, line_length_lem (stage_bytes c.args.report)))
 
 pub returns-then-has_room : goal.returns-then-has_room
 returns-then-has_room c =
+    let r = c.args.report in
     let fits = sym c.has_room.ensures ∙ c.if-has_room.true in
     let room : c.args.at + STATUS ≤ length c.args.buffer.now = leb-true _ _ fits in
-    let yes = put_yes STATUS c.args.buffer.now c.args.at (status_text c.args.report) fits in
-    let bytes = c.stage_bytes-bytes.ensures in
-    let all = status_put c.args.report c.args.buffer.now _ c.args.at _ room (rw bytes at c.put_line-to.ensures.place) (rw bytes at c.put_line-to.ensures.text)
-    _ _ c.put_charts.ensures.place c.put_charts.ensures.text in
-    record { place = all.0 ∙ sym yes.0; text = all.1 ∙ sym yes.1 }
+    let yes = put_yes STATUS c.args.buffer.now c.args.at (status_text r) fits in
+    let line = line_text (stage_bytes r) in
+    let lines = run_texts r.mask r.charts CHARTS in
+    let end = rw c.stage_bytes.ensures at c.put_line-end.ensures.place in
+    let long : c.args.at + length line + length lines ≤ length c.args.buffer.now = omega (arith, line_length_lem (stage_bytes r), runs_length r.mask r.charts CHARTS) in
+    record {
+      place = rw (c.put_charts.ensures.place, end, yes.0, length-append line lines) (omega arith);
+      text =
+          rw (c.put_charts.ensures.text, c.put_line-end.ensures.text, c.stage_bytes.ensures)
+          (put_two c.args.buffer.now c.args.at line lines c.put_line-end.result end long ∙ sym yes.1);
+    }
 
 pub returns-else-has_room : goal.returns-else-has_room
 returns-else-has_room c =
