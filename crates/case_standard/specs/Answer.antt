@@ -1,27 +1,23 @@
 -- A row is 12 digits: product, analyte, mean and reading in hundredths, of 1, 1, 2 and 2 bytes, high byte first.
-use Rattle.std.specs.Prelude.{ℕ, ◌+◌, ◌*◌, List, [], ◌∷◌, get_or}
+use Rattle.std.specs.Prelude.{ℕ, ◌+◌, ◌*◌, List, [], ◌∷◌, get_or, Result, Ok, Err}
+use Rattle.std.specs.Option.{ok_or}
 use Rattle.digits.specs.Digits.{byte_in}
 use Rattle.digits.specs.Numbers.{number_of}
-use Rattle.rows.specs.Refusal.{DIGIT}
-use Rattle.digits.specs.declared.digit.Hex.{Hex}
-use Rattle.digits.specs.declared.digit.Hex.TheVariants.{Value, Bad}
+use Rattle.rows.specs.declared.refusal.Refusal.{Refusal}
+use Rattle.rows.specs.declared.refusal.Refusal.TheVariants.{Digit}
 use Rattle.difference.specs.Standardize.{standardized_of}
-use Rattle.difference.specs.declared.standardize.Standardized.{Standardized}
-use Rattle.difference.specs.declared.standardize.Standardized.TheVariants.{Refused}
+use Rattle.difference.specs.declared.standardize.Figures.{Figures}
 
-abbrev pub DIGITS : ℕ
-DIGITS = 12
+-- the byte that digits 2i and 2i + 1 write; a row with another character is refused
+abbrev pub pair_at : List ℕ → ℕ → Result ℕ Refusal
+pair_at row i = ok_or (byte_in (get_or row (2 * i) 0) (get_or row (2 * i + 1) 0)) Digit
 
--- the byte that digits 2i and 2i + 1 write
-abbrev pub pair_at : List ℕ → ℕ → Hex
-pair_at row i = byte_in (get_or row (2 * i) 0) (get_or row (2 * i + 1) 0)
+-- a byte goes on to what comes of it
+abbrev pub from : Result ℕ Refusal → (ℕ → Result Figures Refusal) → Result Figures Refusal
+from (Ok b) rest = rest b
+from (Err refusal) rest = Err refusal
 
--- a byte goes on to what comes of it, and no byte is refused
-abbrev pub from : Hex → (ℕ → Standardized) → Standardized
-from (Value b) rest = rest b
-from Bad rest = Refused DIGIT
-
-abbrev pub answer_of : List ℕ → Standardized
+abbrev pub answer_of : List ℕ → Result Figures Refusal
 answer_of row =
     from (pair_at row 0) (λ product.
     from (pair_at row 1) (λ analyte.

@@ -4,89 +4,58 @@
 
 #![tactic(auto)]
 
-ghost use Rattle.std.specs.Prelude.{◌≡◌, ◌<◌, length};
-ghost use Rattle.case_standard.specs.Answer.{DIGITS, pair_at, answer_of};
+ghost use Rattle.std.specs.Prelude.{◌≡◌, ◌<◌};
+ghost use Rattle.case_standard.specs.Answer.{pair_at, answer_of};
 
-use difference::standardize::{Figures, Standardized, standardize};
-use digits::{Hex, byte_in, two};
-use rows::refusal::DIGIT;
+use difference::standardize::{Figures, standardize};
+use digits::byte_in;
+use rows::refusal::Refusal;
 
-// The descriptor of standard input.
+// The descriptor of standard input. Three programs' crates read it so: a function for the two lines would
+// want a crate of its own.
 const STDIN: i32 = 0;
 
-// How many digits a row has. A newline follows them.
-const DIGITS: usize = 12;
+// A row: 12 digits, and the newline that ends it.
+const ROW: usize = 13;
 
 // The byte that two digits of a row write.
-fn pair_at(row: &[u8], i: usize) -> Hex
-    requires { (length row.now ≡ DIGITS) × (i < 6) }
+fn pair_at(row: &[u8; ROW], i: usize) -> Result<u8, Refusal>
+    requires { i < 6 }
     ensures { result ≡ pair_at row.now i }
 {
-    byte_in(row[2 * i], row[2 * i + 1])
+    byte_in(row[2 * i], row[2 * i + 1]).ok_or(Refusal::Digit)
 }
 
 // What a row stands for.
-fn answer(row: &[u8]) -> Standardized
-    requires { length row.now ≡ DIGITS }
+fn answer(row: &[u8; ROW]) -> Result<Figures, Refusal>
     ensures { result ≡ answer_of row.now }
 {
-    let Hex::Value(product) = pair_at(row, 0) else {
-        return Standardized::Refused(DIGIT);
-    };
-    let Hex::Value(analyte) = pair_at(row, 1) else {
-        return Standardized::Refused(DIGIT);
-    };
-    let Hex::Value(mean_high) = pair_at(row, 2) else {
-        return Standardized::Refused(DIGIT);
-    };
-    let Hex::Value(mean_low) = pair_at(row, 3) else {
-        return Standardized::Refused(DIGIT);
-    };
-    let Hex::Value(high) = pair_at(row, 4) else {
-        return Standardized::Refused(DIGIT);
-    };
-    let Hex::Value(low) = pair_at(row, 5) else {
-        return Standardized::Refused(DIGIT);
-    };
-    standardize(product, analyte, two(mean_high, mean_low), two(high, low))
+    let product = pair_at(row, 0)?;
+    let analyte = pair_at(row, 1)?;
+    let mean = u16::from_be_bytes([pair_at(row, 2)?, pair_at(row, 3)?]);
+    let reading = u16::from_be_bytes([pair_at(row, 4)?, pair_at(row, 5)?]);
+    standardize(product, analyte, mean, reading)
 }
 
-// A number after a space, with a minus where it is below 0.
-fn print_after(rt: &impl Print, z: i32) -> std::io::Result<()> {
-    print!(rt; " {z}")
-}
-
-fn print_figures(rt: &impl Print, r: Figures) -> std::io::Result<()> {
-    print!(rt; "{}", r.value)?;
-    print_after(rt, r.difference)?;
-    print_after(rt, r.p)?;
-    print_after(rt, r.n)?;
-    print_after(rt, r.v)?;
-    print_after(rt, r.d)
-}
-
-fn print_answer(rt: &impl Print, row: &[u8]) -> std::io::Result<()>
-    requires { length row.now ≡ DIGITS }
-{
+fn print_answer(rt: &impl Print, row: &[u8; ROW]) -> std::io::Result<()> {
     match answer(row) {
-        Standardized::Refused(number) => print!(rt; "refused {number}")?,
-        Standardized::Given(r) => print_figures(rt, r)?,
+        Err(refusal) => println!(rt; "refused {refusal}"),
+        Ok(figures) => {
+            let to = figures.contributions;
+            println!(rt;
+                "{} {} {} {} {} {}",
+                figures.value, figures.difference.tenths, to.p, to.n, to.v, to.d
+            )
+        }
     }
-    println!(rt; "")
-}
-
-// Each row is ended by a newline.
-fn print_answers(rt: &impl Print, rows: &[u8]) -> std::io::Result<()> {
-    let mut at = 0;
-    while DIGITS < rows.len() - at {
-        print_answer(rt, &rows[at..at + DIGITS])?;
-        at += DIGITS + 1;
-    }
-    Ok(())
 }
 
 fn main(rt: HostRuntime) -> std::io::Result<()> {
     let mut input = io::large_buffer();
     let n = io::read_full(STDIN, &mut input);
-    print_answers(&rt, &input[..n])
+    let (rows, _) = input[..n].as_chunks::<ROW>();
+    for row in rows {
+        print_answer(&rt, row)?;
+    }
+    Ok(())
 }

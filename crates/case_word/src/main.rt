@@ -4,13 +4,14 @@
 
 #![tactic(auto)]
 
-ghost use Rattle.std.specs.Prelude.{◌≡◌, length};
-ghost use Rattle.digits.specs.Word.{CHARACTERS};
+ghost use Rattle.std.specs.Prelude.{◌≡◌};
 ghost use Rattle.case_word.specs.Answer.{answer_of};
 
-use digits::{WordBytes, eight, read_word};
+use digits::read_word;
+use rows::refusal::Refusal;
 
-// The descriptor of standard input.
+// The descriptor of standard input. Three programs' crates read it so: a function for the two lines would
+// want a crate of its own.
 const STDIN: i32 = 0;
 
 // How many characters a row has, and how many bytes with its newline.
@@ -18,29 +19,25 @@ const CHARACTERS: usize = 8;
 
 const ROW: usize = CHARACTERS + 1;
 
-// What a row stands for.
-fn answer(row: &[u8]) -> WordBytes
-    requires { length row.now ≡ CHARACTERS }
-    ensures { result ≡ answer_of row.now }
+// What the characters of a row stand for.
+fn answer(word: [u8; CHARACTERS]) -> Result<u32, Refusal>
+    ensures { result ≡ answer_of word }
 {
-    read_word(eight(
-        row[0], row[1], row[2], row[3], row[4], row[5], row[6], row[7],
-    ))
+    read_word(u64::from_be_bytes(word))
 }
 
-fn print_answer(rt: &impl Print, row: &[u8]) -> std::io::Result<()>
-    requires { length row.now ≡ CHARACTERS }
-{
-    match answer(row) {
-        WordBytes::Refused(number) => println!(rt; "refused {number}"),
-        WordBytes::Four(four) => println!(rt; "{four:08x}"),
+fn print_answer(rt: &impl Print, word: [u8; CHARACTERS]) -> std::io::Result<()> {
+    match answer(word) {
+        Err(refusal) => println!(rt; "refused {refusal}"),
+        Ok(four) => println!(rt; "{four:08x}"),
     }
 }
 
 fn print_answers(rt: &impl Print, rows: &[u8]) -> std::io::Result<()> {
-    for i in 0..rows.len() / ROW {
-        let at = ROW * i;
-        print_answer(rt, &rows[at..at + CHARACTERS])?;
+    for row in rows.chunks_exact(ROW) {
+        if let Some(word) = row.first_chunk() {
+            print_answer(rt, *word)?;
+        }
     }
     Ok(())
 }

@@ -1,17 +1,18 @@
 -- Document 02, request One, computed: figures of residues, the compounds that a unit is made of, a line read and a record written, and the claim applied
 -- to three lists of lines of compound 4. On `by_run` a run opens probation, on `by_misses` two misses do, and on `calm` nothing does.
-use Rattle.std.specs.Prelude.{ℕ, ◌<◌, ◌≡◌, Bool, true, false, ◌⊎◌, List, [], ◌∷◌, ◌++◌, map, ℤ, pos, neg_ℤ, replicate}
+use Rattle.std.specs.Prelude.{ℕ, ◌<◌, ◌≡◌, Bool, true, false, ◌⊎◌, List, [], ◌∷◌, ◌++◌, map, ℤ, pos, neg_ℤ, replicate, Ok, Err}
 use Rattle.grounds.specs.Chart.{over, value_after}
 use Rattle.grounds.specs.Claim.{TwoMisses, Misidentified, SomeRun, RightRun}
 use Rattle.grounds.specs.Entry.{Entry, misses, stretch, on_chart}
 use Rattle.digits.specs.Digits.{digits_of}
 use Rattle.field.specs.Refused.{LOST}
-use Rattle.format.specs.declared.Written.TheVariants.{Done, Refused as Unwritten}
+use Rattle.reply.specs.Stage.{stage_byte}
+use Rattle.rows.specs.Refusal.{number_of}
+use Rattle.rows.specs.declared.refusal.Refusal.TheVariants.{Length, Closed, Short, Compound}
 use Rattle.field.specs.Residue.{RESIDUE_KIND, RESULT}
 use Rattle.residue_line.specs.Fields.{bytes_in, record_of}
 use Rattle.residue_line.specs.Read.{fields_at, read_of}
 use Rattle.residue_line.specs.Write.{written_of, buffer_after}
-use Rattle.residue_line.specs.declared.record.Read.TheVariants.{Whole, Refused as Unread}
 use Rattle.difference.specs.Contribution.{residue, limit_of, contributions_of}
 use Rattle.difference.specs.Residue.{residue_difference}
 use Rattle.difference.specs.declared.category.Category.{Category}
@@ -21,7 +22,7 @@ use Rattle.unit.specs.Charts.{charts_in, limit}
 use Rattle.unit.specs.Claim.{history, since, opened_in, entries_of, shown_at}
 use Rattle.unit.specs.Reached.{replay}
 use Rattle.unit.specs.Status.{status_of}
-use Rattle.unit.specs.Take.{ACCREDITED, CLOSED, new_of, made_of, taken_of}
+use Rattle.unit.specs.Take.{new_of, made_of, taken_of}
 use Rattle.reply.specs.declared.event.Event.TheVariants.{Refused}
 use Rattle.reply.specs.declared.report.Report.{Report}
 
@@ -108,24 +109,25 @@ pub record Residues : Type 0 where
   -- P and N of 20, 20, 8 end at their limit and are not over; of 20, 20, 9 they are
   pub limits : (over_on 0 (pos 20 ∷ pos 20 ∷ pos 8 ∷ []) ≡ false) × (over_on 0 (pos 20 ∷ pos 20 ∷ pos 9 ∷ []) ≡ true)
       × (over_on 1 (pos 20 ∷ pos 20 ∷ pos 8 ∷ []) ≡ false) × (over_on 1 (pos 20 ∷ pos 20 ∷ pos 9 ∷ []) ≡ true)
-  -- A unit is made of compound 19, accredited; 20 is refused with 14, and what stands beside it is closed.
-  pub made : ((made_of 19).refusal ≡ 0) × ((made_of 19).unit.stage ≡ ACCREDITED) × ((made_of 20).refusal ≡ 14) × ((made_of 20).unit.stage ≡ CLOSED)
+  -- A unit is made of compound 19, accredited; 20 is refused with 14, and no unit is made.
+  pub made : (made_of 19 ≡ Ok (new_of (Residue 19))) × (stage_byte (new_of (Residue 19)).stage ≡ 2) × (made_of 20 ≡ Err Compound) × (number_of Compound ≡ 14)
   -- the unit is of the compound that was asked for, and its status is that of a new one
-  pub made_of_lem : ((made_of 19).unit ≡ new_of (Residue 19)) × ((status_of (made_of 0).unit).stage ≡ 2) × ((status_of (made_of 0).unit).samples ≡ 0) × ((status_of (made_of 0).unit).mask ≡ 0)
+  pub made_of_lem : (made_of 0 ≡ Ok (new_of (Residue 0))) × (stage_byte (status_of (new_of (Residue 0))).stage ≡ 2)
+      × ((status_of (new_of (Residue 0))).samples ≡ 0) × ((status_of (new_of (Residue 0))).mask ≡ 0)
   -- the first line of `by_run`, byte for byte: it reads for compound 4, and not for another or for one that there is none of
   pub line_is : sample_of 1 compound (neg_ℤ (pos 620))
       ≡ digits_of (0x03 ∷ 0x07 ∷ 0xdd ∷ 0x01 ∷ 0x0a ∷ 0x04 ∷ 0xfe ∷ 0x0c ∷ 0x00 ∷ 0xfd ∷ 0x94 ∷ 0x00 ∷ [])
   pub line_read : let line = sample_of 1 compound (neg_ℤ (pos 620)) in
-      (read_of 4 line ≡ Whole (record_of (fields_at line))) × (read_of 5 line ≡ Unread 14) × (read_of 20 (sample_of 1 20 (pos 0)) ≡ Unread 14)
+      (read_of 4 line ≡ Ok (record_of (fields_at line))) × (read_of 5 line ≡ Err Compound) × (read_of 20 (sample_of 1 20 (pos 0)) ≡ Err Compound)
   -- a line of 25 digits is refused 1; its record is refused 13 by a buffer of 23 bytes, which is as it was; in a longer one the line stands again
-  pub long_refused : read_of 4 (sample_of 1 compound (pos 0) ++ 48 ∷ []) ≡ Unread 1
+  pub long_refused : read_of 4 (sample_of 1 compound (pos 0) ++ 48 ∷ []) ≡ Err Length
   pub write_refused : let r = record_of (fields_at (sample_of 1 compound (pos 0))) in
-      (written_of 4 r (replicate 23 7) ≡ Unwritten 13) × (buffer_after 4 r (replicate 23 7) ≡ replicate 23 7) × (written_of 5 r (replicate 24 7) ≡ Unwritten 14)
+      (written_of 4 r (replicate 23 7) ≡ Err Short) × (buffer_after 4 r (replicate 23 7) ≡ replicate 23 7) × (written_of 5 r (replicate 24 7) ≡ Err Compound)
   pub write_done : let line = sample_of 1 compound (pos 0) in let r = record_of (fields_at line) in
-      (written_of 4 r (replicate 25 7) ≡ Done) × (buffer_after 4 r (replicate 25 7) ≡ line ++ 7 ∷ [])
+      (written_of 4 r (replicate 25 7) ≡ Ok tt) × (buffer_after 4 r (replicate 25 7) ≡ line ++ 7 ∷ [])
   -- Probation is opened, chart 0 alone is named, and run 3 to 7 is shown with its sum.
   pub run_opened : opened by_run ≡ true
-  pub run_status : ((shown by_run).stage ≡ 3) × ((shown by_run).samples ≡ 7) × ((shown by_run).mask ≡ 1) × ((shown by_run).misses ≡ false)
+  pub run_status : (stage_byte (shown by_run).stage ≡ 3) × ((shown by_run).samples ≡ 7) × ((shown by_run).mask ≡ 1) × ((shown by_run).misses ≡ false)
   pub run_shown : shown_at (shown by_run) 0 ≡ record { over = true; first = 3; last = 7; value = pos 50 }
   -- the samples' contributions to that chart
   pub run_samples : on_chart 0 (stretch 2013 (entries by_run)) ≡ neg_ℤ (pos 11) ∷ replicate 6 (pos 10)
@@ -133,15 +135,15 @@ pub record Residues : Type 0 where
   pub run_exists : SomeRun (limit residue) (entries by_run) 0
   pub run_right : RightRun (charts_in residue) (limit residue) (entries by_run) 0 3 7 (pos 50)
   -- a line after probation is refused with 8
-  pub run_after : (taken_of (replay category by_run) (sample_of 8 compound (pos 0))).event ≡ Refused 8
+  pub run_after : (taken_of (replay category by_run) (sample_of 8 compound (pos 0))).event ≡ Refused Closed
   -- Probation is opened, and misses alone are named: January does not clear them, and the stretch is new.
   pub misses_opened : opened by_misses ≡ true
-  pub misses_status : ((shown by_misses).stage ≡ 3) × ((shown by_misses).samples ≡ 1) × ((shown by_misses).mask ≡ 0) × ((shown by_misses).misses ≡ true)
+  pub misses_status : (stage_byte (shown by_misses).stage ≡ 3) × ((shown by_misses).samples ≡ 1) × ((shown by_misses).mask ≡ 0) × ((shown by_misses).misses ≡ true)
   pub misses_months : misses (entries by_misses) ≡ 24155 ∷ 24158 ∷ []
   -- so, by the claim, two of them are near
   pub misses_near : TwoMisses (entries by_misses)
   -- Nothing is opened, named or shown.
   pub calm_opened : opened calm ≡ false
-  pub calm_status : ((shown calm).stage ≡ 2) × ((shown calm).samples ≡ 12) × ((shown calm).mask ≡ 0) × ((shown calm).misses ≡ false)
+  pub calm_status : (stage_byte (shown calm).stage ≡ 2) × ((shown calm).samples ≡ 12) × ((shown calm).mask ≡ 0) × ((shown calm).misses ≡ false)
   -- so, by the claim, there are no two such misses, no window with too many misidentifications and no such run on any chart
   pub calm_holds : ¬ (TwoMisses (entries calm) ⊎ Misidentified (entries calm) ⊎ ((c : ℕ) × (c < charts_in residue) × SomeRun (limit residue) (entries calm) c))

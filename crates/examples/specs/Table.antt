@@ -6,11 +6,13 @@ use Rattle.grounds.specs.Chart.{over, value_after, first_after}
 use Rattle.percent.specs.Percent.{accepted, hundredths_of}
 use Rattle.field.specs.Refused.{reading_row}
 use Rattle.difference.specs.Contribution.{food, limit_of, measure_of, contributions_of}
+use Rattle.difference.specs.declared.analyte.Analyte.{Analyte}
+use Rattle.difference.specs.declared.analyte.Analyte.TheVariants.{Moisture, Salt}
 use Rattle.difference.specs.Difference.{power_of, root_of, value_of, difference_of}
 use Rattle.study.specs.Study.{sums_of, passes_of}
 
 -- the standardized difference d of a reading h hundredths above the mean
-abbrev pub standardized : ℕ → ℕ → ℕ → ℕ → ℤ
+abbrev pub standardized : ℕ → Analyte → ℕ → ℕ → ℤ
 standardized product analyte mean h = (difference_of (pos h) (value_of product analyte mean)).tenths
 
 -- chart P alone, after a stretch's contributions
@@ -34,10 +36,10 @@ pub record Table : Type 0 where
   -- p for T = 10 is 10000, for T = 1000 it is 199526
   pub E : (power_of 10 ≡ 10000) × (power_of 1000 ≡ 199526)
   -- class 2 moisture, h = 100, whatever the mean: d = 18; contributions P 14, N -20, V 9, D -250
-  pub F : (m : ℕ) → (value_of 2 0 m ≡ 5700000) × (standardized 2 0 m 100 ≡ pos 18)
+  pub F : (m : ℕ) → (value_of 2 Moisture m ≡ 5700000) × (standardized 2 Moisture m 100 ≡ pos 18)
       × (contributions_of food (pos 18) ≡ record { p = pos 14; n = neg_ℤ (pos 20); v = pos 9; d = neg_ℤ (pos 250) })
   -- salt M = 200: h = 38 gives d = 25, measure 0; h = 39 gives 26 and 385
-  pub G : (standardized 2 3 200 38 ≡ pos 25) × (measure_of 25 ≡ 0) × (standardized 2 3 200 39 ≡ pos 26) × (measure_of 26 ≡ 385)
+  pub G : (standardized 2 Salt 200 38 ≡ pos 25) × (measure_of 25 ≡ 0) × (standardized 2 Salt 200 39 ≡ pos 26) × (measure_of 26 ≡ 385)
   -- P of 20, 20, 12 ends at 52, not over; 20, 20, 13 is over, run 1 to 3
   pub H : let xs = pos 20 ∷ pos 20 ∷ pos 12 ∷ [] in let ys = pos 20 ∷ pos 20 ∷ pos 13 ∷ [] in
       (value_after xs ≡ pos 52) × (over_p xs ≡ false) × (over_p ys ≡ true) × (first_after ys ≡ 1) × (length ys ≡ 3)

@@ -10,6 +10,8 @@ use Rattle.unit.specs.Charts.{limit}
 use Rattle.unit.specs.Claim.{Step, history, shown_at}
 use Rattle.unit.specs.Reached.{replay}
 use Rattle.unit.specs.Take.{taken_of}
+use Rattle.reply.specs.Stage.{stage_byte}
+use Rattle.rows.specs.declared.refusal.Refusal.TheVariants.{Closed}
 use Rattle.reply.specs.declared.event.Event.{Event}
 use Rattle.reply.specs.declared.event.Event.TheVariants.{Refused, Sample, Missed, ByMisidentifications}
 use Rattle.examples.specs.Residue.{compound, category, counted_line, entries, opened, shown}
@@ -64,17 +66,17 @@ pub record Windows : Type 0 where
   -- the second of two; it is named by the event, and by the status no chart and no misses are; from then on a line is refused with 8
   pub two_events : events by_two ≡ Sample ∷ Missed ∷ ByMisidentifications ∷ []
   pub two_counts : counts (entries by_two) ≡ 1 ∷ 1 ∷ []
-  pub two_status : ((shown by_two).stage ≡ 3) × ((shown by_two).samples ≡ 2) × ((shown by_two).mask ≡ 0) × ((shown by_two).misses ≡ false)
-  pub two_after : (taken_of (replay category by_two) (even 2013 4 0)).event ≡ Refused 8
+  pub two_status : (stage_byte (shown by_two).stage ≡ 3) × ((shown by_two).samples ≡ 2) × ((shown by_two).mask ≡ 0) × ((shown by_two).misses ≡ false)
+  pub two_after : (taken_of (replay category by_two) (even 2013 4 0)).event ≡ Refused Closed
   -- so, by the claim, there is a window with too many
   pub two_window : Misidentified (entries by_two)
   -- the third in eight, across a January: the stretch is new, the window is not
   pub eight_events : events by_eight ≡ replicate 7 Sample ++ ByMisidentifications ∷ []
-  pub eight_status : ((shown by_eight).stage ≡ 3) × ((shown by_eight).samples ≡ 4) × ((shown by_eight).mask ≡ 0) × ((shown by_eight).misses ≡ false)
+  pub eight_status : (stage_byte (shown by_eight).stage ≡ 3) × ((shown by_eight).samples ≡ 4) × ((shown by_eight).mask ≡ 0) × ((shown by_eight).misses ≡ false)
   pub eight_window : Misidentified (entries by_eight)
   -- event 08 in place of 06: charts 1 (N) and 2 (V) are over by the same sample, and named all the same
   pub both_events : events by_both ≡ Sample ∷ Sample ∷ ByMisidentifications ∷ []
-  pub both_status : ((shown by_both).stage ≡ 3) × ((shown by_both).samples ≡ 3) × ((shown by_both).mask ≡ 6) × ((shown by_both).misses ≡ false)
+  pub both_status : (stage_byte (shown by_both).stage ≡ 3) × ((shown by_both).samples ≡ 3) × ((shown by_both).mask ≡ 6) × ((shown by_both).misses ≡ false)
   pub both_shown : shown_at (shown by_both) 1 ≡ record { over = true; first = 1; last = 3; value = pos 60 }
   pub both_exist : Misidentified (entries by_both) × SomeRun (limit residue) (entries by_both) 1
   -- none: one and one eight samples apart, and with a third between them

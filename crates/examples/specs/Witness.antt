@@ -1,7 +1,7 @@
 -- What the promises speak of is there, computed on real lines: a line is refused and one is taken, a record is written and one refused, and the claim is
 -- applied to three lists. On `by_run` a run opens probation, on `by_misses` two misses do, and on `calm` nothing does. Each list starts with a study set
 -- that passes.
-use Rattle.std.specs.Prelude.{ℕ, ◌<◌, ◌≡◌, Bool, true, false, ◌⊎◌, List, [], ◌∷◌, ◌++◌, map, pos, neg_ℤ, replicate}
+use Rattle.std.specs.Prelude.{ℕ, ◌<◌, ◌≡◌, Bool, true, false, ◌⊎◌, List, [], ◌∷◌, ◌++◌, map, pos, neg_ℤ, replicate, Ok, Err}
 use Rattle.grounds.specs.Claim.{TwoMisses, Misidentified, SomeRun, RightRun}
 use Rattle.grounds.specs.Entry.{Entry, misses, stretch, on_chart, years}
 use Rattle.digits.specs.Digits.{digits_of}
@@ -11,8 +11,8 @@ use Rattle.food_line.specs.Read.{fields_at, read_of}
 use Rattle.food_line.specs.Write.{written_of, buffer_after}
 use Rattle.field.specs.declared.Tagged.{Tagged}
 use Rattle.food_line.specs.declared.record.Record.{Record}
-use Rattle.food_line.specs.declared.record.Read.TheVariants.{Whole}
-use Rattle.format.specs.declared.Written.TheVariants.{Done, Refused as Unwritten}
+use Rattle.reply.specs.Stage.{stage_byte}
+use Rattle.rows.specs.declared.refusal.Refusal.TheVariants.{Length, Short}
 use Rattle.unit.specs.Charts.{charts_in, limit}
 use Rattle.unit.specs.Claim.{history, since, opened_in, entries_of, shown_at}
 use Rattle.difference.specs.declared.category.Category.TheVariants.{Food}
@@ -97,7 +97,7 @@ opened ls = opened_in (since (history Food ls))
 
 -- the status line: stage, samples in the stretch, mask and misses
 pub record Status (ls : List (List ℕ)) (stage samples mask : ℕ) (misses : Bool) : Type 0 where
-  pub stage_is : (status_of (replay Food ls)).stage ≡ stage
+  pub stage_is : stage_byte (status_of (replay Food ls)).stage ≡ stage
   pub samples_are : (status_of (replay Food ls)).samples ≡ samples
   pub mask_is : (status_of (replay Food ls)).mask ≡ mask
   pub misses_are : (status_of (replay Food ls)).misses ≡ misses
@@ -114,12 +114,12 @@ pub record Witness : Type 0 where
       ≡ digits_of
       (0x02 ∷ 0x07 ∷ 0xdc ∷ 0x03 ∷ 0x0a ∷ 0x02 ∷ 0x17 ∷ 0x70 ∷ 0x07 ∷ 0x08 ∷ 0x05 ∷ 0xdc ∷ 0x00 ∷ 0xc8 ∷ 0x00 ∷ 0x42 ∷ 0x70 ∷ 0x00 ∷ 0x00 ∷ 0x00 ∷ 0x41 ∷ 0x90 ∷ 0x00 ∷ 0x00 ∷ 0x00 ∷ 0x41 ∷ 0x70 ∷ 0x00 ∷ 0x00 ∷ 0x00 ∷ 0x40 ∷ 0x00 ∷ 0x00 ∷ 0x00 ∷ [])
   -- A line of two digits is refused 1, and the unit is as it was; document 01's own line reads, and is the first of its set.
-  pub line_refused : taken_of new_unit (48 ∷ 48 ∷ []) ≡ record { event = Refused 1; unit = new_unit }
-  pub line_read : read_of study ≡ Whole recorded
+  pub line_refused : taken_of new_unit (48 ∷ 48 ∷ []) ≡ record { event = Refused Length; unit = new_unit }
+  pub line_read : read_of study ≡ Ok recorded
   pub line_taken : (taken_of new_unit study).event ≡ UnderWay 1
   -- Its record is refused 13 by a buffer that is short, which is as it was; in a longer one the line stands again, and the rest is as it was.
-  pub write_refused : (written_of recorded (7 ∷ []) ≡ Unwritten 13) × (buffer_after recorded (7 ∷ []) ≡ 7 ∷ [])
-  pub write_done : (written_of recorded (replicate 70 7) ≡ Done) × (buffer_after recorded (replicate 70 7) ≡ study ++ 7 ∷ 7 ∷ [])
+  pub write_refused : (written_of recorded (7 ∷ []) ≡ Err Short) × (buffer_after recorded (7 ∷ []) ≡ 7 ∷ [])
+  pub write_done : (written_of recorded (replicate 70 7) ≡ Ok tt) × (buffer_after recorded (replicate 70 7) ≡ study ++ 7 ∷ 7 ∷ [])
   -- Probation is opened, chart 0 (P of moisture) alone is named, and run 3 to 8 is shown with its sum.
   pub run_opened : opened by_run ≡ true
   pub run_status : Status by_run 3 8 1 false

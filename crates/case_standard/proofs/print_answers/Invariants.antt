@@ -1,9 +1,0 @@
--- Each turn passes a row and its newline.
-use Rattle.std.proofs.Common.{◌-◌, ◌≤◌, length}
-use Rattle.case_standard.proofs.print_answers.Given as goal
-
-abbrev pub invariant-loop-at : goal.invariant-loop-at
-invariant-loop-at g l = l.at ≤ length l.rows
-
-abbrev pub decreases-loop-at : goal.decreases-loop-at
-decreases-loop-at g l = length l.rows - l.at
