@@ -1,7 +1,6 @@
 -- Signed numbers and what stands for them: each is the other's inverse, at every width. Assumes nothing.
 use Prim.Native.Nat.{ℕ, zero, suc, ◌+◌, ◌-◌, ◌*◌, ◌^◌, ◌<◌, ◌≤◌}
 use mathlib.Core.Path.{◌≡◌, refl, sym, ap, ap₂, ◌∙◌}
-use mathlib.Core.Bool.{true, false}
 use mathlib.Core.List.{◌∷◌}
 use mathlib.Core.Logic.{⊎_elim}
 use native.Mathlib.Nat.{pow-suc}
@@ -9,11 +8,11 @@ use native.Mathlib.Omega.{arith}
 use borrow.Author.Tests.{lt-ltb, le-ltb, ltb-true, ltb-false}
 use lib.Dec.{ltb}
 use lib.Pow.{pow-add}
-use lib.IntN.{ℤ, pos, negsuc, ◌+ℤ◌, ◌-ℤ◌}
+use lib.IntN.{ℤ, pos, negsuc, ◌-ℤ◌}
 use lib.ListN.{length}
-use lib.Signed.{mag, lt_z}
+use lib.Signed.{mag}
 use Rattle.laws.proofs.Bools.{either}
-use Rattle.laws.proofs.Order.{zarith, plus, minus, canon, size}
+use Rattle.laws.proofs.Order.{zarith, minus, canon}
 use Rattle.digits.specs.Numbers.{BYTE, number_of, number_bytes}
 use Rattle.digits.specs.Signed.{half, signed_by, unsigned_by}
 use Rattle.digits.specs.Inverse.{SignedBack, SignedBytesBack}
@@ -28,34 +27,9 @@ module _ (h : ℕ) where
   unfolding signed_by
   signed_high n l = simp (le-ltb n h l)
 
-  -- the highest bit taken first
-  pub high_half : (n : ℕ) → h ≤ n → pos (n - h) -ℤ pos h ≡ signed_by h n
-  high_half n l = omega (zarith, minus (pos (n - h)) (pos h), minus (pos n) (pos (2 * h)), canon (pos (n - h) -ℤ pos h), canon (pos n -ℤ pos (2 * h))) ∙ sym (signed_high n l)
-
-  -- it is as near to 0 as it may be
-  pub signed_mag : (n : ℕ) → n < 2 * h → mag (signed_by h n) < h
-  signed_mag n l =
-      ⊎_elim (λ p. rw (signed_low n (ltb-true n h p)) (ltb-true n h p))
-      (λ p. rw (signed_high n (ltb-false n h p)) (omega (zarith, ltb-false n h p, minus (pos n) (pos (2 * h)), size (pos n -ℤ pos (2 * h)), canon (pos n -ℤ pos (2 * h)))))
-      (either (ltb n h))
-
   pub unsigned_lt : (z : ℤ) → mag z < h → unsigned_by h z < 2 * h
   unsigned_lt (pos n) f = omega arith
   unsigned_lt (negsuc n) f = omega arith
-
-  -- ---- of a number: not negative, or with the highest bit set
-
-  pub kept : (z : ℤ) → lt_z z (pos 0) ≡ false → z ≡ pos (unsigned_by h z)
-  kept (pos n) e = refl
-  kept (negsuc n) e = absurd (omega zarith)
-
-  pub raised : (z : ℤ) → mag z < h → lt_z z (pos 0) ≡ true → z +ℤ pos h ≡ pos (unsigned_by h z - h)
-  raised (pos n) f e = absurd (omega (zarith, ltb-true n 0 e))
-  raised (negsuc n) f e = omega (zarith, plus (negsuc n) (pos h))
-
-  pub raised_high : (z : ℤ) → mag z < h → lt_z z (pos 0) ≡ true → h ≤ unsigned_by h z
-  raised_high (pos n) f e = absurd (omega (zarith, ltb-true n 0 e))
-  raised_high (negsuc n) f e = omega arith
 
   -- ---- inverse
 

@@ -7,7 +7,7 @@ ghost use Rattle.digits.specs.Digits.{is_digit, digit_value, byte_of, byte_in, d
 fn is_digit(c: u8) -> bool
     ensures { result ≡ is_digit c }
 {
-    ((b'0' <= c) & (c <= b'9')) | ((b'a' <= c) & (c <= b'f'))
+    matches!(c, b'0'..=b'9' | b'a'..=b'f')
 }
 
 // What a digit stands for.
@@ -33,11 +33,7 @@ fn byte_of(high: u8, low: u8) -> u8
 pub fn byte_in(high: u8, low: u8) -> Option<u8>
     ensures { result ≡ byte_in high low }
 {
-    if is_digit(high) & is_digit(low) {
-        Some(byte_of(high, low))
-    } else {
-        None
-    }
+    (is_digit(high) & is_digit(low)).then(|| byte_of(high, low))
 }
 
 #[tactic(auto, unfolding(crate::specs::Digits::digit_of))]

@@ -12,6 +12,7 @@ use Rattle.laws.proofs.Bools.{or_neither, or_either, and_fails}
 use Rattle.laws.proofs.Order.{canon, lt_z_false_in}
 use Rattle.laws.proofs.Word.{abs}
 use Rattle.field.specs.Refused.{LOST}
+use Rattle.field.specs.declared.Tagged.{Tagged}
 use Rattle.field.specs.Residue.{RESIDUE_KIND, LAST_COMPOUND, LEAST_LOG, MOST_LOG, RESULT, MOST_COUNT, residue_kind_row, no_compound, compound_row, outside, log_row, result_row}
 
 pub kind_is : (kind : ℕ) → residue_kind_row kind ≡ false → kind ≡ RESIDUE_KIND
@@ -28,23 +29,23 @@ compound_is given compound e =
 -- ---- the result
 
 -- a tag is one of two, a lost result is zero, and the count is not too high
-pub record Result (tag : ℕ) (result : ℤ) (count : ℕ) : Type 0 where
-  pub tagged : (tag ≡ RESULT) ⊎ (tag ≡ LOST)
-  pub lost : tag ≡ LOST → result ≡ pos 0
+pub record Result (t : Tagged ℤ) (count : ℕ) : Type 0 where
+  pub tagged : (t.tag ≡ RESULT) ⊎ (t.tag ≡ LOST)
+  pub lost : t.tag ≡ LOST → t.number ≡ pos 0
   pub few : count ≤ MOST_COUNT
 
 zero_is : (z : ℤ) → nat_abs z ≡ 0 → z ≡ pos 0
 zero_is (pos n) e = ap pos e
 zero_is (negsuc n) e = absurd (omega arith)
 
-pub result : (tag : ℕ) (log : ℤ) (count : ℕ) → result_row tag log count ≡ false → Result tag log count
+pub result : (t : Tagged ℤ) (count : ℕ) → result_row t count ≡ false → Result t count
 unfolding result_row
-result tag log count e =
-    let p = or_neither (not (eqb tag RESULT || eqb tag LOST) || (eqb tag LOST && not (eqb (nat_abs log) 0))) (ltb MOST_COUNT count) e in
-    let q = or_neither (not (eqb tag RESULT || eqb tag LOST)) (eqb tag LOST && not (eqb (nat_abs log) 0)) p.0 in
+result t count e =
+    let p = or_neither (not (eqb t.tag RESULT || eqb t.tag LOST) || (eqb t.tag LOST && not (eqb (nat_abs t.number) 0))) (ltb MOST_COUNT count) e in
+    let q = or_neither (not (eqb t.tag RESULT || eqb t.tag LOST)) (eqb t.tag LOST && not (eqb (nat_abs t.number) 0)) p.0 in
     record {
-      tagged = ⊎_elim (λ t. inl (eqb-true tag RESULT t)) (λ t. inr (eqb-true tag LOST t)) (or_either (eqb tag RESULT) (eqb tag LOST) (not-false _ q.0));
-      lost = λ t. zero_is log (eqb-true (nat_abs log) 0 (not-false _ (and_fails (eqb tag LOST) (not (eqb (nat_abs log) 0)) (eq-eqb tag LOST t) q.1)));
+      tagged = ⊎_elim (λ z. inl (eqb-true t.tag RESULT z)) (λ z. inr (eqb-true t.tag LOST z)) (or_either (eqb t.tag RESULT) (eqb t.tag LOST) (not-false _ q.0));
+      lost = λ z. zero_is t.number (eqb-true (nat_abs t.number) 0 (not-false _ (and_fails (eqb t.tag LOST) (not (eqb (nat_abs t.number) 0)) (eq-eqb t.tag LOST z) q.1)));
       few = ltb-false MOST_COUNT count p.1;
     }
 
@@ -61,14 +62,14 @@ within log e =
     omega (arith, abs log, canon log, lt_z_false_in log LEAST_LOG p.0, lt_z_false_in MOST_LOG log p.1)
 
 -- both are within, a lost one being zero
-pub logs_within : (comparison : ℤ) (tag : ℕ) (log : ℤ) (count : ℕ) → log_row comparison tag log ≡ false → result_row tag log count ≡ false
-    → (nat_abs comparison ≤ FARTHEST) × (nat_abs log ≤ FARTHEST)
+pub logs_within : (comparison : ℤ) (t : Tagged ℤ) (count : ℕ) → log_row comparison t ≡ false → result_row t count ≡ false
+    → (nat_abs comparison ≤ FARTHEST) × (nat_abs t.number ≤ FARTHEST)
 unfolding log_row
-logs_within comparison tag log count e f =
-    let p = or_neither (outside comparison) (eqb tag RESULT && outside log) e in
-    let r = result tag log count f in (
+logs_within comparison t count e f =
+    let p = or_neither (outside comparison) (eqb t.tag RESULT && outside t.number) e in
+    let r = result t count f in (
       within comparison p.0,
-      ⊎_elim (λ (t : tag ≡ RESULT). within log (and_fails (eqb tag RESULT) (outside log) (eq-eqb tag RESULT t) p.1))
-          (λ (t : tag ≡ LOST). let z = ap nat_abs (r.lost t) in omega arith)
+      ⊎_elim (λ (z : t.tag ≡ RESULT). within t.number (and_fails (eqb t.tag RESULT) (outside t.number) (eq-eqb t.tag RESULT z) p.1))
+          (λ (z : t.tag ≡ LOST). let n = ap nat_abs (r.lost z) in omega arith)
           r.tagged,
     )

@@ -5,6 +5,7 @@ use Rattle.std.specs.Float.Ieee.{of_bits}
 use Rattle.percent.specs.Percent.{accepted}
 use Rattle.field.specs.declared.Means.{Means}
 use Rattle.field.specs.declared.Tagged.{Tagged}
+use Rattle.field.specs.Class.{class_of, is_ground_beef, is_other_meat}
 
 -- the kinds of a food line
 abbrev pub MAINTENANCE : ℕ
@@ -28,17 +29,13 @@ LAST_YEAR = 2099
 unfoldable pub date_row : ℕ → ℕ → Bool
 date_row year month = ltb year FIRST_YEAR || ltb LAST_YEAR year || ltb month 1 || ltb 12 month
 
--- bits 0 and 1 of the product
-abbrev pub class_of : ℕ → ℕ
-class_of product = product % 4
-
 -- bit 7 of the product: dry salami or pepperoni
 abbrev pub is_dry : ℕ → Bool
 is_dry product = not (eqb (product / 128) 0)
 
 -- product: bits 2 to 6 set, or bit 7 without class 2
 unfoldable pub product_row : ℕ → Bool
-product_row product = not (eqb (product / 4 % 32) 0) || (is_dry product && not (eqb (class_of product) 2))
+product_row product = not (eqb (product / 4 % 32) 0) || (is_dry product && not (is_other_meat (class_of product)))
 
 -- the highest mean: a hundred percent, in hundredths
 abbrev pub MOST : ℕ
@@ -57,7 +54,7 @@ mean_row product m =
     (ltb MOST m.moisture || ltb MOST m.protein || ltb MOST m.fat || ltb MOST m.salt)
     || ltb m.protein LEAST_PROTEIN
     || eqb m.fat 0
-    || (eqb (class_of product) 1 && ltb m.fat LEAST_BEEF_FAT)
+    || (is_ground_beef (class_of product) && ltb m.fat LEAST_BEEF_FAT)
 
 -- the tags of a reading
 abbrev pub PERCENT : ℕ
@@ -70,8 +67,8 @@ abbrev pub LOST : ℕ
 LOST = 2
 
 -- reading: tag above 02, nonzero bytes under 01 or 02, percent not accepted
-unfoldable pub reading_row : Tagged → Bool
+unfoldable pub reading_row : Tagged ℕ → Bool
 reading_row t =
     ltb LOST t.tag
-    || (ltb PERCENT t.tag && not (eqb t.bits 0))
-    || (eqb t.tag PERCENT && not (accepted (of_bits binary32 t.bits)))
+    || (ltb PERCENT t.tag && not (eqb t.number 0))
+    || (eqb t.tag PERCENT && not (accepted (of_bits binary32 t.number)))

@@ -3,6 +3,7 @@
 use Rattle.std.specs.Prelude.{ℕ, Bool, not, ◌&&◌, ◌||◌, ltb, eqb, ℤ, pos, neg_ℤ, nat_abs}
 use Rattle.std.specs.Int.Signed.{lt_z}
 use Rattle.field.specs.Refused.{LOST}
+use Rattle.field.specs.declared.Tagged.{Tagged}
 
 -- the kind of a residue line
 abbrev pub RESIDUE_KIND : ℕ
@@ -38,16 +39,16 @@ abbrev pub RESULT : ℕ
 RESULT = 0
 
 -- log: outside, the result's only under tag 00
-unfoldable pub log_row : ℤ → ℕ → ℤ → Bool
-log_row comparison tag result = outside comparison || (eqb tag RESULT && outside result)
+unfoldable pub log_row : ℤ → Tagged ℤ → Bool
+log_row comparison t = outside comparison || (eqb t.tag RESULT && outside t.number)
 
 -- the highest count of misidentifications
 abbrev pub MOST_COUNT : ℕ
 MOST_COUNT = 20
 
 -- result: a tag that is not 00 or 02, a nonzero result under 02, a count above 20
-unfoldable pub result_row : ℕ → ℤ → ℕ → Bool
-result_row tag result count =
-    not (eqb tag RESULT || eqb tag LOST)
-    || (eqb tag LOST && not (eqb (nat_abs result) 0))
+unfoldable pub result_row : Tagged ℤ → ℕ → Bool
+result_row t count =
+    not (eqb t.tag RESULT || eqb t.tag LOST)
+    || (eqb t.tag LOST && not (eqb (nat_abs t.number) 0))
     || ltb MOST_COUNT count

@@ -4,22 +4,19 @@
 
 #![tactic(auto)]
 
+pub mod class;
 pub mod residue;
 
 ghost use Rattle.std.specs.Prelude.{◌≡◌};
 ghost use Rattle.field.specs.Refused.{kind_row, date_row, product_row, mean_row, reading_row};
 
+use class::Class;
 use percent::is_accepted;
 
 // The kinds of a food line.
 pub const MAINTENANCE: u8 = 1;
 
 pub const STUDY: u8 = 2;
-
-// Classes of a product: ground beef, and the one that dry salami and pepperoni are of.
-pub const GROUND_BEEF: u8 = 1;
-
-const OTHER_MEAT: u8 = 2;
 
 // The years of a line.
 const FIRST_YEAR: u16 = 2000;
@@ -50,11 +47,11 @@ pub const NOTHING_FOUND: u8 = 1;
 
 pub const LOST: u8 = 2;
 
-// A reading as a line has it: the tag, and the number that the four bytes after it make.
+// A reading or a result as a line has it: the tag, and the number that the bytes after it make.
 #[derive(Clone, Copy)]
-pub struct Tagged {
+pub struct Tagged<T> {
     pub tag: u8,
-    pub bits: u32,
+    pub number: T,
 }
 
 // A kind that no food line has.
@@ -73,12 +70,12 @@ pub fn date_row(year: u16, month: u8) -> bool
     !(FIRST_YEAR..=LAST_YEAR).contains(&year) | !(1..=12).contains(&month)
 }
 
-// A product that no line has: bits 0 and 1 are the class, and bit 7 is for dry salami or pepperoni.
+// A product that no line has. Bit 7 is for dry salami or pepperoni, which are other meat.
 #[tactic(auto, unfolding(crate::specs::Refused::product_row))]
 pub fn product_row(product: u8) -> bool
     ensures { result ≡ product_row product }
 {
-    (product >> 2 & 31 != 0) | ((product >> 7 != 0) & (product & 3 != OTHER_MEAT))
+    (product >> 2 & 31 != 0) | ((product >> 7 != 0) & (Class::of(product) != Class::OtherMeat))
 }
 
 // Means that no line of the product has.
@@ -89,17 +86,17 @@ pub fn mean_row(product: u8, m: Means) -> bool
     ((MOST < m.moisture) | (MOST < m.protein) | (MOST < m.fat) | (MOST < m.salt))
         | (m.protein < LEAST_PROTEIN)
         | (m.fat == 0)
-        | ((product & 3 == GROUND_BEEF) & (m.fat < LEAST_BEEF_FAT))
+        | ((Class::of(product) == Class::GroundBeef) & (m.fat < LEAST_BEEF_FAT))
 }
 
 // A reading that no line has.
 #[tactic(auto, unfolding(crate::specs::Refused::reading_row))]
-pub fn reading_row(t: Tagged) -> bool
+pub fn reading_row(t: Tagged<u32>) -> bool
     ensures { result ≡ reading_row t }
 {
     match t.tag {
-        PERCENT => !is_accepted(t.bits),
-        NOTHING_FOUND | LOST => t.bits != 0,
+        PERCENT => !is_accepted(t.number),
+        NOTHING_FOUND | LOST => t.number != 0,
         _ => true,
     }
 }

@@ -4,7 +4,7 @@
 ghost use Rattle.std.specs.Prelude.{◌≡◌};
 ghost use Rattle.field.specs.Residue.{residue_kind_row, no_compound, compound_row, outside, log_row, result_row};
 
-use crate::LOST;
+use crate::{LOST, Tagged};
 
 // The kind of a residue line.
 pub const RESIDUE_KIND: u8 = 3;
@@ -56,16 +56,16 @@ fn is_outside(log: i16) -> bool
 
 // A log that no line has: the result's is looked at under its own tag alone.
 #[tactic(auto, unfolding(crate::specs::Residue::log_row))]
-pub fn log_row(comparison: i16, tag: u8, res: i16) -> bool
-    ensures { result ≡ log_row comparison tag res }
+pub fn log_row(comparison: i16, t: Tagged<i16>) -> bool
+    ensures { result ≡ log_row comparison t }
 {
-    is_outside(comparison) | ((tag == RESULT) & is_outside(res))
+    is_outside(comparison) | ((t.tag == RESULT) & is_outside(t.number))
 }
 
 // A tag, a lost result or a count that no line has.
 #[tactic(auto, unfolding(crate::specs::Residue::result_row))]
-pub fn result_row(tag: u8, res: i16, count: u8) -> bool
-    ensures { result ≡ result_row tag res count }
+pub fn result_row(t: Tagged<i16>, count: u8) -> bool
+    ensures { result ≡ result_row t count }
 {
-    !matches!(tag, RESULT | LOST) | ((tag == LOST) & (res != 0)) | (MOST_COUNT < count)
+    !matches!(t.tag, RESULT | LOST) | ((t.tag == LOST) & (t.number != 0)) | (MOST_COUNT < count)
 }

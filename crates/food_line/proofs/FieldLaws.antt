@@ -3,10 +3,11 @@ use Prim.Native.Nat.{ℕ, ◌+◌}
 use mathlib.Core.Path.{◌≡◌, sym, ap, ◌∙◌}
 use mathlib.Core.List.{List, [], ◌∷◌}
 use lib.ListN.{length, get_or}
-use Rattle.digits.specs.Numbers.{AreBytes, number_bytes}
+use Rattle.digits.specs.Numbers.{AreBytes, four_at, number_bytes}
 use Rattle.laws.proofs.Lists.{tabulated}
 use Rattle.format.proofs.Parts.{two_split, four_split}
-use Rattle.food_line.specs.Fields.{line_bytes, tagged, bytes5, bytes_in, fields_in}
+use Rattle.format.specs.Tagged.{tagged_at}
+use Rattle.food_line.specs.Fields.{line_bytes, bytes5, bytes_in, fields_in}
 use Rattle.food_line.specs.declared.fields.Fields.{Fields}
 
 -- ---- the 34 bytes, gathered from the bytes of the parts
@@ -28,7 +29,7 @@ gather f ey em ep et es ea eb ec ed = rw (ey, em, ep, et, es, ea, eb, ec, ed)
 -- ---- 34 bytes, read and gathered again
 
 module _ (bs : List ℕ) (A : AreBytes bs) where
-  tagged_split : (i : ℕ) → get_or bs i 0 ∷ get_or bs (i + 1) 0 ∷ get_or bs (i + 1 + 1) 0 ∷ get_or bs (i + 1 + 2) 0 ∷ get_or bs (i + 1 + 3) 0 ∷ [] ≡ bytes5 (tagged bs i)
+  tagged_split : (i : ℕ) → get_or bs i 0 ∷ get_or bs (i + 1) 0 ∷ get_or bs (i + 1 + 1) 0 ∷ get_or bs (i + 1 + 2) 0 ∷ get_or bs (i + 1 + 3) 0 ∷ [] ≡ bytes5 (tagged_at four_at bs i)
   tagged_split i = ap (λ (l : List ℕ). get_or bs i 0 ∷ l) (four_split bs A (i + 1))
 
   pub bytes_back : length bs ≡ line_bytes → bytes_in (fields_in bs) ≡ bs

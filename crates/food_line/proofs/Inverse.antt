@@ -43,19 +43,19 @@ tag_cases (suc (suc (suc n))) h = absurd (omega arith)
 pattern_back : (b : ℕ) → b ≤ 0x42c80000 → to_bits binary32 (of_bits binary32 b) ≡ b
 pattern_back b h = to_bits-of_bits binary32 b (omega arith) (subst (λ (t : Bool). T (not t)) (nan_bits_is binary32 b) (not_nan b h))
 
-tagged_of_lem : (tag bits : ℕ) (t : Tagged) → tag ≡ t.tag → bits ≡ t.bits → record { tag = tag; bits = bits } ≡ t
-tagged_of_lem tag bits t p q = ap₂ (λ (x y : ℕ). record { tag = x; bits = y }) p q
+tagged_of_lem : (tag number : ℕ) (t : Tagged ℕ) → tag ≡ t.tag → number ≡ t.number → record { tag = tag; number = number } ≡ t
+tagged_of_lem tag number t p q = ap₂ (λ (x y : ℕ). record { tag = x; number = y }) p q
 
-reading_by : (t : Tagged) (n : ℕ) → t.tag ≡ n → reading_of t ≡ cond (eqb n 0) (Percent (of_bits binary32 t.bits)) (cond (eqb n 1) NothingFound Lost)
+reading_by : (t : Tagged ℕ) (n : ℕ) → t.tag ≡ n → reading_of t ≡ cond (eqb n 0) (Percent (of_bits binary32 t.number)) (cond (eqb n 1) NothingFound Lost)
 unfolding reading_of
-reading_by t n e = ap (λ (k : ℕ). cond (eqb k 0) (Percent (of_bits binary32 t.bits)) (cond (eqb k 1) NothingFound Lost)) e
+reading_by t n e = ap (λ (k : ℕ). cond (eqb k 0) (Percent (of_bits binary32 t.number)) (cond (eqb k 1) NothingFound Lost)) e
 
-tagged_back : (t : Tagged) → t.bits < 2 ^ 32 → reading_row t ≡ false → tagged_of (reading_of t) ≡ t
+tagged_back : (t : Tagged ℕ) → t.number < 2 ^ 32 → reading_row t ≡ false → tagged_of (reading_of t) ≡ t
 unfolding tagged_of
 tagged_back t B e =
     let g = good_reading t e in
     ⊎_elim
-    (λ (z : t.tag ≡ 0). ap tagged_of (reading_by t 0 z) ∙ tagged_of_lem 0 (to_bits binary32 (of_bits binary32 t.bits)) t (sym z) (pattern_back t.bits (percent_bits t.bits B (g.percent z))))
+    (λ (z : t.tag ≡ 0). ap tagged_of (reading_by t 0 z) ∙ tagged_of_lem 0 (to_bits binary32 (of_bits binary32 t.number)) t (sym z) (pattern_back t.number (percent_bits t.number B (g.percent z))))
     (⊎_elim (λ (z : t.tag ≡ 1). ap tagged_of (reading_by t 1 z) ∙ tagged_of_lem 1 0 t (sym z) (sym (g.zero (λ (y : t.tag ≡ 0). omega arith))))
     (λ (z : t.tag ≡ 2). ap tagged_of (reading_by t 2 z) ∙ tagged_of_lem 2 0 t (sym z) (sym (g.zero (λ (y : t.tag ≡ 0). omega arith)))))
     (tag_cases t.tag g.tag)
@@ -88,7 +88,7 @@ fields_in_again : (f : Fields) → fields_in (bytes_in f) ≡ f
 fields_in_again f =
     let two = number_back 1 in
     let four = number_back 3 in
-    rw (two f.year, two f.means.moisture, two f.means.protein, two f.means.fat, two f.means.salt, four f.moisture.bits, four f.protein.bits, four f.fat.bits, four f.salt.bits)
+    rw (two f.year, two f.means.moisture, two f.means.protein, two f.means.fat, two f.means.salt, four f.moisture.number, four f.protein.number, four f.fat.number, four f.salt.number)
 
 tag_lt : (r : Reading) → (tagged_of r).tag < 256
 unfolding tagged_of
@@ -96,14 +96,14 @@ tag_lt (Percent x) = omega arith
 tag_lt NothingFound = omega arith
 tag_lt Lost = omega arith
 
-typed_bits : (r : Reading) → TypedReading r → (tagged_of r).bits < 2 ^ 32
+typed_bits : (r : Reading) → TypedReading r → (tagged_of r).number < 2 ^ 32
 unfolding tagged_of
 typed_bits (Percent x) h = to_bits-lt binary32 x h
 typed_bits NothingFound h = omega arith
 typed_bits Lost h = omega arith
 
 five_then : {P : Type 0} (x : Reading) → TypedReading x → P → Then (bytes5 (tagged_of x)) P
-five_then x h = then (bytes5 (tagged_of x)) (tag_lt x, number_bytes_are 4 (tagged_of x).bits (typed_bits x h))
+five_then x h = then (bytes5 (tagged_of x)) (tag_lt x, number_bytes_are 4 (tagged_of x).number (typed_bits x h))
 
 typed_bytes : (r : Record) → Typed r → AreBytes (bytes_in (fields_of r))
 typed_bytes r h =

@@ -42,24 +42,24 @@ clean f e =
 
 -- ---- a reading that row 7 does not fit
 
-pub record GoodReading (t : Tagged) : Type 0 where
+pub record GoodReading (t : Tagged ℕ) : Type 0 where
   pub tag : t.tag ≤ LOST
-  pub zero : (t.tag ≡ PERCENT → ⊥) → t.bits ≡ 0
-  pub percent : t.tag ≡ PERCENT → accepted (of_bits binary32 t.bits) ≡ true
+  pub zero : (t.tag ≡ PERCENT → ⊥) → t.number ≡ 0
+  pub percent : t.tag ≡ PERCENT → accepted (of_bits binary32 t.number) ≡ true
 
 and_gives : (a b : Bool) → a ≡ true → (a && not b) ≡ false → b ≡ true
 and_gives true b p e = not-false b e
 and_gives false b p e = absurd (false≢true p)
 
-pub good_reading : (t : Tagged) → reading_row t ≡ false → GoodReading t
+pub good_reading : (t : Tagged ℕ) → reading_row t ≡ false → GoodReading t
 unfolding reading_row
 good_reading t e =
-    let p = or_neither (ltb LOST t.tag || (ltb PERCENT t.tag && not (eqb t.bits 0))) (eqb t.tag PERCENT && not (accepted (of_bits binary32 t.bits))) e in
-    let q = or_neither (ltb LOST t.tag) (ltb PERCENT t.tag && not (eqb t.bits 0)) p.0 in
+    let p = or_neither (ltb LOST t.tag || (ltb PERCENT t.tag && not (eqb t.number 0))) (eqb t.tag PERCENT && not (accepted (of_bits binary32 t.number))) e in
+    let q = or_neither (ltb LOST t.tag) (ltb PERCENT t.tag && not (eqb t.number 0)) p.0 in
     record {
       tag = ltb-false LOST t.tag q.0;
-      zero = λ n. eqb-true t.bits 0 (and_gives (ltb PERCENT t.tag) (eqb t.bits 0) (lt-ltb PERCENT t.tag (above t.tag n)) q.1);
-      percent = λ z. and_gives (eqb t.tag PERCENT) (accepted (of_bits binary32 t.bits)) (eq-eqb t.tag PERCENT z) p.1;
+      zero = λ n. eqb-true t.number 0 (and_gives (ltb PERCENT t.tag) (eqb t.number 0) (lt-ltb PERCENT t.tag (above t.tag n)) q.1);
+      percent = λ z. and_gives (eqb t.tag PERCENT) (accepted (of_bits binary32 t.number)) (eq-eqb t.tag PERCENT z) p.1;
     }
   where
     above : (n : ℕ) → (n ≡ 0 → ⊥) → 0 < n

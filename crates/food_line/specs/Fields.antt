@@ -1,9 +1,10 @@
 -- Document 01, "The line", the table of fields: 34 bytes as numbers, and these numbers as a record, both ways. High bytes come first.
-use Rattle.std.specs.Prelude.{ℕ, ◌+◌, cond, List, [], ◌∷◌, ◌++◌, eqb}
+use Rattle.std.specs.Prelude.{ℕ, cond, List, [], ◌∷◌, ◌++◌, eqb}
 use Rattle.std.specs.Float.{binary32}
 use Rattle.std.specs.Float.Ieee.{of_bits, to_bits}
 use Rattle.digits.specs.Numbers.{one_at, two_at, four_at, number_bytes}
 use Rattle.field.specs.Refused.{PERCENT, NOTHING_FOUND, LOST}
+use Rattle.format.specs.Tagged.{tagged_at}
 use Rattle.food_line.specs.declared.fields.Fields.{Fields}
 use Rattle.field.specs.declared.Tagged.{Tagged}
 use Rattle.food_line.specs.declared.record.Record.{Record}
@@ -17,10 +18,6 @@ line_length = 68
 abbrev pub line_bytes : ℕ
 line_bytes = 34
 
--- a tag byte and 4 bytes
-abbrev pub tagged : List ℕ → ℕ → Tagged
-tagged bytes i = record { tag = one_at bytes i; bits = four_at bytes (i + 1) }
-
 -- the fields that 34 bytes hold
 abbrev pub fields_in : List ℕ → Fields
 fields_in bytes = record {
@@ -30,15 +27,15 @@ fields_in bytes = record {
   days = one_at bytes 4;
   product = one_at bytes 5;
   means = record { moisture = two_at bytes 6; protein = two_at bytes 8; fat = two_at bytes 10; salt = two_at bytes 12 };
-  moisture = tagged bytes 14;
-  protein = tagged bytes 19;
-  fat = tagged bytes 24;
-  salt = tagged bytes 29;
+  moisture = tagged_at four_at bytes 14;
+  protein = tagged_at four_at bytes 19;
+  fat = tagged_at four_at bytes 24;
+  salt = tagged_at four_at bytes 29;
 }
 
 -- the bytes of a reading
-abbrev pub bytes5 : Tagged → List ℕ
-bytes5 t = t.tag ∷ number_bytes 4 t.bits
+abbrev pub bytes5 : Tagged ℕ → List ℕ
+bytes5 t = t.tag ∷ number_bytes 4 t.number
 
 -- the 34 bytes that hold the fields
 abbrev pub bytes_in : Fields → List ℕ
@@ -51,14 +48,14 @@ bytes_in f =
     ++ (number_bytes 2 f.means.salt ++ (bytes5 f.moisture ++ (bytes5 f.protein ++ (bytes5 f.fat ++ bytes5 f.salt))))))))
 
 -- a reading by its tag: 00 a percent in binary32, 01 nothing found, 02 lost
-unfoldable pub reading_of : Tagged → Reading
-reading_of t = cond (eqb t.tag PERCENT) (Percent (of_bits binary32 t.bits)) (cond (eqb t.tag NOTHING_FOUND) NothingFound Lost)
+unfoldable pub reading_of : Tagged ℕ → Reading
+reading_of t = cond (eqb t.tag PERCENT) (Percent (of_bits binary32 t.number)) (cond (eqb t.tag NOTHING_FOUND) NothingFound Lost)
 
 -- under 01 and 02 the four bytes are zero
-unfoldable pub tagged_of : Reading → Tagged
-tagged_of (Percent x) = record { tag = PERCENT; bits = to_bits binary32 x }
-tagged_of NothingFound = record { tag = NOTHING_FOUND; bits = 0 }
-tagged_of Lost = record { tag = LOST; bits = 0 }
+unfoldable pub tagged_of : Reading → Tagged ℕ
+tagged_of (Percent x) = record { tag = PERCENT; number = to_bits binary32 x }
+tagged_of NothingFound = record { tag = NOTHING_FOUND; number = 0 }
+tagged_of Lost = record { tag = LOST; number = 0 }
 
 abbrev pub record_of : Fields → Record
 record_of f = record {

@@ -4,12 +4,11 @@
 ghost use Rattle.std.specs.Prelude.{◌≡◌, false, ◌<◌, ◌+◌};
 ghost use Rattle.std.proofs.lemmas.List.Edits.{sets};
 ghost use Rattle.digits.specs.Numbers.{number_bytes};
-ghost use Rattle.food_line.specs.Fields.{line_bytes, bytes5, tagged, reading_of, tagged_of};
+ghost use Rattle.food_line.specs.Fields.{line_bytes, bytes5, reading_of, tagged_of};
 ghost use Rattle.food_line.specs.bounds.Types.{TypedReading};
 ghost use Rattle.field.specs.Refused.{reading_row};
 
 use crate::record::Reading;
-use digits::Number;
 use field::{LOST, Means, NOTHING_FOUND, PERCENT, Tagged};
 use percent::bits_of;
 
@@ -24,10 +23,10 @@ pub struct Fields {
     pub days: u8,
     pub product: u8,
     pub means: Means,
-    pub moisture: Tagged,
-    pub protein: Tagged,
-    pub fat: Tagged,
-    pub salt: Tagged,
+    pub moisture: Tagged<u32>,
+    pub protein: Tagged<u32>,
+    pub fat: Tagged<u32>,
+    pub salt: Tagged<u32>,
 }
 
 // Puts a number's two bytes at i. By hand: with `b[i..i + 2].copy_from_slice(..)` for each part the proof that
@@ -42,12 +41,12 @@ pub fn put2(mut b: [u8; BYTES], i: usize, n: u16) -> [u8; BYTES]
     b
 }
 
-// Puts a tagged reading's five bytes at i.
-pub fn put5(mut b: [u8; BYTES], i: usize, t: Tagged) -> [u8; BYTES]
+// Puts a tagged reading's five bytes at i, by hand as `put2` does.
+pub fn put5(mut b: [u8; BYTES], i: usize, t: Tagged<u32>) -> [u8; BYTES]
     requires { i + 4 < line_bytes }
     ensures { result ≡ sets b i (bytes5 t) }
 {
-    let bytes = t.bits.to_be_bytes();
+    let bytes = t.number.to_be_bytes();
     b[i] = t.tag;
     b[i + 1] = bytes[0];
     b[i + 2] = bytes[1];
@@ -56,25 +55,14 @@ pub fn put5(mut b: [u8; BYTES], i: usize, t: Tagged) -> [u8; BYTES]
     b
 }
 
-// The tag at i and the number that the four bytes after it make.
-pub fn tagged_at(b: &[u8], i: usize) -> Tagged
-    requires { i < line_bytes }
-    ensures { result ≡ tagged b.now i }
-{
-    Tagged {
-        tag: u8::at(b, i),
-        bits: u32::at(b, i + 1),
-    }
-}
-
-// A reading by its tag, of fields that no row refuses.
+// A reading by its tag, of fields that no row refuses: no `From`, which may ask nothing.
 #[tactic(auto, unfolding(crate::specs::Fields::reading_of))]
-pub fn reading_of(t: Tagged) -> Reading
+pub fn reading_of(t: Tagged<u32>) -> Reading
     requires { reading_row t ≡ false }
     ensures { result ≡ reading_of t }
 {
     match t.tag {
-        PERCENT => Reading::Percent(f32::from_bits(t.bits)),
+        PERCENT => Reading::Percent(f32::from_bits(t.number)),
         NOTHING_FOUND => Reading::NothingFound,
         _ => Reading::Lost,
     }
@@ -82,19 +70,23 @@ pub fn reading_of(t: Tagged) -> Reading
 
 // A reading's tag and number. A percent is a value of binary32, by its type.
 #[tactic(auto, unfolding(crate::specs::Fields::tagged_of))]
-pub fn tagged_of(r: Reading) -> Tagged
-    ensures tagged { result ≡ tagged_of r }
-    ensures typed { TypedReading r }
-{
-    match r {
-        Reading::Percent(x) => Tagged {
-            tag: PERCENT,
-            bits: bits_of(x),
-        },
-        Reading::NothingFound => Tagged {
-            tag: NOTHING_FOUND,
-            bits: 0,
-        },
-        Reading::Lost => Tagged { tag: LOST, bits: 0 },
+impl From<Reading> for Tagged<u32> {
+    ghost from_gives = { λ r t. (t ≡ tagged_of r) × TypedReading r };
+
+    fn from(r: Reading) -> Tagged<u32> {
+        match r {
+            Reading::Percent(x) => Tagged {
+                tag: PERCENT,
+                number: bits_of(x),
+            },
+            Reading::NothingFound => Tagged {
+                tag: NOTHING_FOUND,
+                number: 0,
+            },
+            Reading::Lost => Tagged {
+                tag: LOST,
+                number: 0,
+            },
+        }
     }
 }

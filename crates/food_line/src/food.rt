@@ -5,11 +5,11 @@ ghost use Rattle.std.proofs.Common.{lit<};
 ghost use Rattle.food_line.specs.Food.{food};
 ghost use Rattle.food_line.specs.bounds.Tables.{are_tables};
 
-use crate::fields::{BYTES, Fields, put2, put5, reading_of, tagged_at, tagged_of};
+use crate::fields::{BYTES, Fields, put2, put5, reading_of};
 use crate::record::{Readings, Record};
 use digits::Number;
 use field::{Means, date_row, kind_row, mean_row, product_row, reading_row};
-use format::Format;
+use format::{Format, tagged_at};
 use rows::refusal::Refusal;
 use rows::{Row, first_of};
 
@@ -110,10 +110,10 @@ impl Format<BYTES> for FoodLine {
             days: r.days,
             product: r.product,
             means: r.means,
-            moisture: tagged_of(r.readings.moisture),
-            protein: tagged_of(r.readings.protein),
-            fat: tagged_of(r.readings.fat),
-            salt: tagged_of(r.readings.salt),
+            moisture: r.readings.moisture.into(),
+            protein: r.readings.protein.into(),
+            fat: r.readings.fat.into(),
+            salt: r.readings.salt.into(),
         }
     }
 }

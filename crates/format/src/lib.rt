@@ -4,6 +4,7 @@
 #![tactic(auto)]
 
 mod line;
+mod tagged;
 
 ghost use Rattle.std.specs.Prelude.{◌≡◌, ◌<◌, ◌^◌, Ok};
 ghost use Rattle.rows.specs.Rows.{first_row, by_row, Answers};
@@ -13,6 +14,7 @@ ghost use Rattle.format.specs.Write.{BufferKept};
 
 pub use line::{read_line, write_line};
 use rows::refusal::Refusal;
+pub use tagged::tagged_at;
 
 // A format of lines of so many bytes: the fields that the bytes hold, the first row that refuses the
 // fields, and the record that they hold where none does, both ways.

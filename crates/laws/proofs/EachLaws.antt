@@ -47,6 +47,7 @@ module _ {A : Type 0} (n : ℕ) (f : ℕ → A → A) (xs : List A) (d : A) wher
 pub any_more : (n : ℕ) (f : ℕ → Bool) {a b : Bool} → a ≡ any_below n f → b ≡ f n → (a || b) ≡ any_below (n + 1) f
 any_more n f p q = rw (add-one, p, q)
 
+-- the same of `all_below`; nothing cites it now
 pub all_more : (n : ℕ) (f : ℕ → Bool) {a b : Bool} → a ≡ all_below n f → b ≡ f n → (a && b) ≡ all_below (n + 1) f
 all_more n f p q = rw (add-one, p, q)
 

@@ -7,7 +7,6 @@ pub mod Table
 pub mod Cond
 pub mod Order
 pub mod Word
-pub mod Signs
 pub mod Lists
 pub mod Gathered
 pub mod EachLaws

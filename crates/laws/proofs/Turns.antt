@@ -1,5 +1,5 @@
 -- Neighbouring lanes exchanged: `(x & mask) << c | (x >> c) & mask` of a row of lanes of c bits, the mask having the low lane of each two. One law
--- for every c; and lanes taken two by two as lanes of twice the width. Assumes nothing.
+-- for every c. Nothing cites it now: a word is turned by std's `swap_bytes`. Assumes nothing.
 use mathlib.Core.Path.{◌≡◌, refl, sym, ap, ap₂, ◌∙◌}
 use mathlib.Core.List.{List, [], ◌∷◌}
 use Prim.Native.Nat.{ℕ, ◌+◌, ◌-◌, ◌*◌, ◌/◌, ◌^◌, ◌<◌}
@@ -8,7 +8,7 @@ use lib.Arith.{digits_div, digits_mod}
 use lib.Bits.{bit_and, bit_or, or_block, or_shifted}
 use lib.Pow.{pow-add, pow_mono, shr-shr, shl_lt}
 use Rattle.laws.proofs.Lanes.{AllOf}
-use Rattle.laws.proofs.Joins.{number, paired, seconds, Even, low_kept}
+use Rattle.laws.proofs.Joins.{number, seconds, Even, low_kept}
 
 abbrev pub exchanged : List ℕ → List ℕ
 exchanged [] = []
@@ -24,12 +24,6 @@ two_lanes : (c x h l : ℕ) → (x * 2 ^ c + h) * 2 ^ c + l ≡ x * 2 ^ (c + c) 
 two_lanes c x h l =
     ap (λ (n : ℕ). n + l) (add-mul (x * 2 ^ c) h (2 ^ c) ∙ ap (λ (n : ℕ). n + h * 2 ^ c) (mul_assoc x (2 ^ c) (2 ^ c) ∙ ap (λ (p : ℕ). x * p) (sym (pow-add 2 c c))))
     ∙ add_assoc (x * 2 ^ (c + c)) (h * 2 ^ c) l
-
-pub regrouped : (c : ℕ) (vs : List ℕ) → Even vs → (x : ℕ) → number c x vs ≡ number (c + c) x (paired c vs)
-regrouped c [] e x = refl
-regrouped c (h ∷ []) e x = absurd e
-regrouped c (h ∷ l ∷ rest) e x =
-    regrouped c rest e ((x * 2 ^ c + h) * 2 ^ c + l) ∙ ap (λ (n : ℕ). number (c + c) n (paired c rest)) (two_lanes c x h l)
 
 module _ (c x h l : ℕ) (H : h < 2 ^ c) (L : l < 2 ^ c) (y : ℕ) where
   -- x with two lanes more, and the mask with its two
@@ -73,8 +67,3 @@ exchange_row c (h ∷ []) e p x y = absurd e
 exchange_row c (h ∷ l ∷ rest) e p x y =
     exchange_row c rest e p.1.1 ((x * 2 ^ c + h) * 2 ^ c + l) (y * 2 ^ (c + c) + (2 ^ c - 1))
     ∙ ap (λ (n : ℕ). number c n (exchanged rest)) (exchange_two c x h l p.0 p.1.0 y)
-
-pub exchanged_all : (P : ℕ → Type 0) (vs : List ℕ) → AllOf P vs → AllOf P (exchanged vs)
-exchanged_all P [] p = tt
-exchanged_all P (h ∷ []) p = p
-exchanged_all P (h ∷ l ∷ rest) p = (p.1.0, (p.0, exchanged_all P rest p.1.1))

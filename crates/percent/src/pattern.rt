@@ -9,8 +9,7 @@ ghost use Rattle.percent.specs.Percent.{accepted};
 // their values, and those with a sign, the infinities and the NaNs come after it.
 const HUNDRED: u32 = 0x42c8_0000;
 
-// A NaN's bit pattern, which std's `to_bits` does not give: which one does not matter, since none is
-// accepted.
+// A NaN's bit pattern: std's `to_bits` asks for no NaN. Which one does not matter, since none is accepted.
 const NAN: u32 = 0x7fc0_0000;
 
 // The bit pattern of a float.

@@ -11,8 +11,8 @@ use Rattle.residue_line.specs.Fields.{line_bytes, bytes_in, fields_in}
 use Rattle.residue_line.specs.declared.fields.Fields.{Fields}
 
 -- the 12 bytes, gathered from the bytes of the parts
-pub gathered : (f : Fields) {y c r : List ℕ} → y ≡ number_bytes 2 f.year → c ≡ signed_bytes 2 f.comparison → r ≡ signed_bytes 2 f.result
-    → f.kind ∷ get_or y 0 0 ∷ get_or y 1 0 ∷ f.month ∷ f.days ∷ f.compound ∷ get_or c 0 0 ∷ get_or c 1 0 ∷ f.tag ∷ get_or r 0 0 ∷ get_or r 1 0 ∷ f.count ∷ [] ≡ bytes_in f
+pub gathered : (f : Fields) {y c r : List ℕ} → y ≡ number_bytes 2 f.year → c ≡ signed_bytes 2 f.comparison → r ≡ signed_bytes 2 f.result.number
+    → f.kind ∷ get_or y 0 0 ∷ get_or y 1 0 ∷ f.month ∷ f.days ∷ f.compound ∷ get_or c 0 0 ∷ get_or c 1 0 ∷ f.result.tag ∷ get_or r 0 0 ∷ get_or r 1 0 ∷ f.count ∷ [] ≡ bytes_in f
 gathered f ey ec er = rw (ey, ec, er)
 
 -- 12 bytes, read and gathered again

@@ -15,12 +15,13 @@ use Rattle.digits.proofs.NumberLaws.{number_back}
 use Rattle.digits.proofs.SignedLaws.{signed_back}
 use Rattle.field.specs.Refused.{LOST}
 use Rattle.field.specs.Residue.{RESULT, result_row}
+use Rattle.field.specs.declared.Tagged.{Tagged}
 use Rattle.field.proofs.DateLaws.{date}
 use Rattle.field.proofs.ResidueLaws.{FARTHEST, kind_is, compound_is, result}
 use Rattle.format.proofs.Parts.{two_then, signed_then}
 use Rattle.format.proofs.LayoutLaws as layout
 use Rattle.format.specs.Sound.{FieldsBack, RecordBack}
-use Rattle.residue_line.specs.Fields.{line_bytes, fields_in, bytes_in, result_of, tag_of, log_of, record_of, fields_of}
+use Rattle.residue_line.specs.Fields.{line_bytes, fields_in, bytes_in, result_of, tagged_of, record_of, fields_of}
 use Rattle.residue_line.specs.bounds.Types.{Typed}
 use Rattle.residue_line.specs.Inverse.{WritesBack, ReadsBack}
 use Rattle.residue_line.specs.Read.{fields_at, line_rows, read_of}
@@ -34,27 +35,25 @@ use Rattle.residue_line.proofs.RowLaws.{Clean, clean, logs}
 -- ---- fields that were read, and the record that they hold
 
 -- a result that row 7 does not fit has its tag and its log again
-tagged_back : (tag : ℕ) (log : ℤ) (count : ℕ) → result_row tag log count ≡ false → (tag_of (result_of tag log) ≡ tag) × (log_of (result_of tag log) ≡ log)
-unfolding result_of tag_of log_of
-tagged_back tag log count e =
-    let r = result tag log count e in
+tagged_back : (t : Tagged ℤ) (count : ℕ) → result_row t count ≡ false → tagged_of (result_of t) ≡ t
+unfolding result_of tagged_of
+tagged_back t count e =
+    let r = result t count e in
     ⊎_elim
-    (λ (t : tag ≡ RESULT). (rw t, rw t))
-    (λ (t : tag ≡ LOST). (rw t, rw (t, r.lost t)))
+    (λ (z : t.tag ≡ RESULT). rw z)
+    (λ (z : t.tag ≡ LOST). rw (z, r.lost z))
     r.tagged
 
 fields_again : (given : ℕ) (f : Fields) → Clean given f → fields_of (record_of f) ≡ f
-fields_again given f c =
-    let t = tagged_back f.tag f.result f.count c.result in
-    rw (t.0, t.1)
+fields_again given f c = rw (tagged_back f.result f.count c.result)
 
 pub fields_back : (given : ℕ) (f : Fields) → Clean given f → FieldsBack line_bytes (residue given) f
 fields_back given f c bs A n e = (fields_again given f c, ap bytes_in e ∙ bytes_back bs A n)
 
 -- ---- a record, and the fields that hold it
 
-result_back : (r : Option ℤ) → result_of (tag_of r) (log_of r) ≡ r
-unfolding result_of tag_of log_of
+result_back : (r : Option ℤ) → result_of (tagged_of r) ≡ r
+unfolding result_of tagged_of
 result_back (Some log) = refl
 result_back None = refl
 
@@ -62,15 +61,15 @@ small : (z : ℤ) → nat_abs z ≤ FARTHEST → mag z < half 2
 small (pos n) h = omega arith
 small (negsuc n) h = omega arith
 
-fields_in_again : (f : Fields) → nat_abs f.comparison ≤ FARTHEST → nat_abs f.result ≤ FARTHEST → fields_in (bytes_in f) ≡ f
-fields_in_again f c r = rw (number_back 1 f.year, signed_back 1 f.comparison (small f.comparison c), signed_back 1 f.result (small f.result r))
+fields_in_again : (f : Fields) → nat_abs f.comparison ≤ FARTHEST → nat_abs f.result.number ≤ FARTHEST → fields_in (bytes_in f) ≡ f
+fields_in_again f c r = rw (number_back 1 f.year, signed_back 1 f.comparison (small f.comparison c), signed_back 1 f.result.number (small f.result.number r))
 
 module _ (given : ℕ) (f : Fields) (c : Clean given f) where
-  result_bytes : AreBytes (f.tag ∷ signed_bytes 2 f.result ++ (f.count ∷ []))
+  result_bytes : AreBytes (f.result.tag ∷ signed_bytes 2 f.result.number ++ (f.count ∷ []))
   result_bytes =
-      let r = result f.tag f.result f.count c.result in
-      let tag : f.tag < BYTE = ⊎_elim (λ (t : f.tag ≡ RESULT). omega arith) (λ (t : f.tag ≡ LOST). omega arith) r.tagged in
-      (tag, signed_then f.result (small f.result (logs given f c).1) (omega (arith, r.few), tt))
+      let r = result f.result f.count c.result in
+      let tag : f.result.tag < BYTE = ⊎_elim (λ (t : f.result.tag ≡ RESULT). omega arith) (λ (t : f.result.tag ≡ LOST). omega arith) r.tagged in
+      (tag, signed_then f.result.number (small f.result.number (logs given f c).1) (omega (arith, r.few), tt))
 
   clean_bytes : f.days < BYTE → AreBytes (bytes_in f)
   clean_bytes days =

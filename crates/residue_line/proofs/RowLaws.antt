@@ -17,8 +17,8 @@ pub record Clean (given : ℕ) (f : Fields) : Type 0 where
   pub kind : residue_kind_row f.kind ≡ false
   pub date : date_row f.year f.month ≡ false
   pub compound : compound_row given f.compound ≡ false
-  pub log : log_row f.comparison f.tag f.result ≡ false
-  pub result : result_row f.tag f.result f.count ≡ false
+  pub log : log_row f.comparison f.result ≡ false
+  pub result : result_row f.result f.count ≡ false
 
 pub clean : (given : ℕ) (f : Fields) → first_row (field_rows given f) ≡ Ok tt → Clean given f
 unfolding first_row
@@ -31,5 +31,5 @@ clean given f e =
     record { kind = k.0; date = d.0; compound = c.0; log = l.0; result = r.0 }
 
 -- both logs are within their bounds
-pub logs : (given : ℕ) (f : Fields) → Clean given f → (nat_abs f.comparison ≤ FARTHEST) × (nat_abs f.result ≤ FARTHEST)
-logs given f c = logs_within f.comparison f.tag f.result f.count c.log c.result
+pub logs : (given : ℕ) (f : Fields) → Clean given f → (nat_abs f.comparison ≤ FARTHEST) × (nat_abs f.result.number ≤ FARTHEST)
+logs given f c = logs_within f.comparison f.result f.count c.log c.result

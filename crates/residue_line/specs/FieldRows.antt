@@ -13,6 +13,6 @@ field_rows compound f =
     record { refusal = Kind; fits = residue_kind_row f.kind }
     ∷ record { refusal = Date; fits = date_row f.year f.month }
     ∷ record { refusal = Compound; fits = compound_row compound f.compound }
-    ∷ record { refusal = Log; fits = log_row f.comparison f.tag f.result }
-    ∷ record { refusal = Reading; fits = result_row f.tag f.result f.count }
+    ∷ record { refusal = Log; fits = log_row f.comparison f.result }
+    ∷ record { refusal = Reading; fits = result_row f.result f.count }
     ∷ []

@@ -5,6 +5,8 @@ use Rattle.digits.specs.Numbers.{one_at, two_at, number_bytes}
 use Rattle.digits.specs.Signed.{signed_two_at, signed_bytes}
 use Rattle.field.specs.Refused.{LOST}
 use Rattle.field.specs.Residue.{RESULT}
+use Rattle.field.specs.declared.Tagged.{Tagged}
+use Rattle.format.specs.Tagged.{tagged_at}
 use Rattle.residue_line.specs.declared.fields.Fields.{Fields}
 use Rattle.residue_line.specs.declared.record.Record.{Record}
 
@@ -24,8 +26,7 @@ fields_in bytes = record {
   days = one_at bytes 4;
   compound = one_at bytes 5;
   comparison = signed_two_at bytes 6;
-  tag = one_at bytes 8;
-  result = signed_two_at bytes 9;
+  result = tagged_at signed_two_at bytes 8;
   count = one_at bytes 11;
 }
 
@@ -33,20 +34,16 @@ fields_in bytes = record {
 abbrev pub bytes_in : Fields → List ℕ
 bytes_in f =
     (f.kind ∷ number_bytes 2 f.year)
-    ++ ((f.month ∷ f.days ∷ f.compound ∷ signed_bytes 2 f.comparison) ++ ((f.tag ∷ signed_bytes 2 f.result) ++ (f.count ∷ [])))
+    ++ ((f.month ∷ f.days ∷ f.compound ∷ signed_bytes 2 f.comparison) ++ ((f.result.tag ∷ signed_bytes 2 f.result.number) ++ (f.count ∷ [])))
 
 -- a result by its tag: 00 a log, 02 lost
-unfoldable pub result_of : ℕ → ℤ → Option ℤ
-result_of tag log = cond (eqb tag RESULT) (Some log) None
+unfoldable pub result_of : Tagged ℤ → Option ℤ
+result_of t = cond (eqb t.tag RESULT) (Some t.number) None
 
 -- a lost result is written as tag 02 and zero
-unfoldable pub tag_of : Option ℤ → ℕ
-tag_of (Some log) = RESULT
-tag_of None = LOST
-
-unfoldable pub log_of : Option ℤ → ℤ
-log_of (Some log) = log
-log_of None = pos 0
+unfoldable pub tagged_of : Option ℤ → Tagged ℤ
+tagged_of (Some log) = record { tag = RESULT; number = log }
+tagged_of None = record { tag = LOST; number = pos 0 }
 
 abbrev pub record_of : Fields → Record
 record_of f = record {
@@ -56,7 +53,7 @@ record_of f = record {
   days = f.days;
   compound = f.compound;
   comparison = f.comparison;
-  result = result_of f.tag f.result;
+  result = result_of f.result;
   count = f.count;
 }
 
@@ -68,7 +65,6 @@ fields_of r = record {
   days = r.days;
   compound = r.compound;
   comparison = r.comparison;
-  tag = tag_of r.result;
-  result = log_of r.result;
+  result = tagged_of r.result;
   count = r.count;
 }

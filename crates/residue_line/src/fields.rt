@@ -1,10 +1,10 @@
 // The fields of a residue line as numbers, in the order of request One.
 
 ghost use Rattle.std.specs.Prelude.{◌≡◌};
-ghost use Rattle.residue_line.specs.Fields.{result_of, tag_of};
+ghost use Rattle.residue_line.specs.Fields.{result_of, tagged_of};
 
-use field::LOST;
 use field::residue::RESULT;
+use field::{LOST, Tagged};
 
 // How many bytes a line's digits write.
 pub const BYTES: usize = 12;
@@ -17,23 +17,32 @@ pub struct Fields {
     pub days: u8,
     pub compound: u8,
     pub comparison: i16,
-    pub tag: u8,
-    pub result: i16,
+    pub result: Tagged<i16>,
     pub count: u8,
 }
 
-// A result by its tag.
+// A result by its tag. By a function, as the other way below.
 #[tactic(auto, unfolding(crate::specs::Fields::result_of))]
-pub fn result_of(tag: u8, log: i16) -> Option<i16>
-    ensures { result ≡ result_of tag log }
+pub fn result_of(t: Tagged<i16>) -> Option<i16>
+    ensures { result ≡ result_of t }
 {
-    (tag == RESULT).then_some(log)
+    (t.tag == RESULT).then_some(t.number)
 }
 
-// A result's tag.
-#[tactic(auto, unfolding(crate::specs::Fields::tag_of))]
-pub fn tag_of(res: Option<i16>) -> u8
-    ensures { result ≡ tag_of res }
+// A result's tag and log. No `From`: here "an impl of another crate's trait must name a type of this crate", and
+// in `field` it would stand away from `result_of`.
+#[tactic(auto, unfolding(crate::specs::Fields::tagged_of))]
+pub fn tagged_of(res: Option<i16>) -> Tagged<i16>
+    ensures { result ≡ tagged_of res }
 {
-    if res.is_some() { RESULT } else { LOST }
+    match res {
+        Some(number) => Tagged {
+            tag: RESULT,
+            number,
+        },
+        None => Tagged {
+            tag: LOST,
+            number: 0,
+        },
+    }
 }

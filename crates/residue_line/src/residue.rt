@@ -5,12 +5,12 @@ ghost use Rattle.std.proofs.Common.{lit<};
 ghost use Rattle.residue_line.specs.Residue.{residue};
 ghost use Rattle.residue_line.specs.bounds.Tables.{are_tables};
 
-use crate::fields::{BYTES, Fields, result_of, tag_of};
+use crate::fields::{BYTES, Fields, result_of, tagged_of};
 use crate::record::Record;
 use digits::Number;
 use field::date_row;
 use field::residue::{compound_row, log_row, residue_kind_row, result_row};
-use format::Format;
+use format::{Format, tagged_at};
 use rows::refusal::Refusal;
 use rows::{Row, first_of};
 
@@ -39,8 +39,7 @@ impl Format<BYTES> for ResidueLine {
             days: u8::at(b, 4),
             compound: u8::at(b, 5),
             comparison: i16::at(b, 6),
-            tag: u8::at(b, 8),
-            result: i16::at(b, 9),
+            result: tagged_at(b, 8),
             count: u8::at(b, 11),
         }
     }
@@ -48,7 +47,7 @@ impl Format<BYTES> for ResidueLine {
     fn bytes_in(self, f: Fields) -> [u8; BYTES] {
         let year = f.year.to_be_bytes();
         let comparison = f.comparison.to_be_bytes();
-        let result = f.result.to_be_bytes();
+        let result = f.result.number.to_be_bytes();
         [
             f.kind,
             year[0],
@@ -58,7 +57,7 @@ impl Format<BYTES> for ResidueLine {
             f.compound,
             comparison[0],
             comparison[1],
-            f.tag,
+            f.result.tag,
             result[0],
             result[1],
             f.count,
@@ -72,8 +71,8 @@ impl Format<BYTES> for ResidueLine {
             Row::new(Refusal::Kind, residue_kind_row(f.kind)),
             Row::new(Refusal::Date, date_row(f.year, f.month)),
             Row::new(Refusal::Compound, compound_row(self.compound, f.compound)),
-            Row::new(Refusal::Log, log_row(f.comparison, f.tag, f.result)),
-            Row::new(Refusal::Reading, result_row(f.tag, f.result, f.count)),
+            Row::new(Refusal::Log, log_row(f.comparison, f.result)),
+            Row::new(Refusal::Reading, result_row(f.result, f.count)),
         ])
     }
 
@@ -86,12 +85,11 @@ impl Format<BYTES> for ResidueLine {
             days: f.days,
             compound: f.compound,
             comparison: f.comparison,
-            result: result_of(f.tag, f.result),
+            result: result_of(f.result),
             count: f.count,
         })
     }
 
-    #[tactic(auto, unfolding(crate::specs::Fields::log_of))]
     fn fields_of(self, r: Record) -> Fields {
         Fields {
             kind: r.kind,
@@ -100,8 +98,7 @@ impl Format<BYTES> for ResidueLine {
             days: r.days,
             compound: r.compound,
             comparison: r.comparison,
-            tag: tag_of(r.result),
-            result: r.result.unwrap_or(0),
+            result: tagged_of(r.result),
             count: r.count,
         }
     }

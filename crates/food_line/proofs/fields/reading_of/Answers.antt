@@ -7,4 +7,4 @@ use Rattle.food_line.proofs.fields.reading_of.Goals as goal
 pub float_from_bits-result : goal.float_from_bits-result
 float_from_bits-result c =
     let t = c.args.t in
-    not_nan t.bits (percent_bits t.bits (omega arith) ((good_reading t c.requires).percent c.in-0.is))
+    not_nan t.number (percent_bits t.number (omega arith) ((good_reading t c.requires).percent c.in-0.is))
