@@ -3,8 +3,8 @@ pub mod Largest
 pub mod PowerList
 pub mod DistanceLaws
 pub mod Fourth
-pub mod Coefficients
 pub mod ValueLaws
+pub mod Coefficients
 pub mod Bounds
 pub mod MeanLaws
 pub mod Given

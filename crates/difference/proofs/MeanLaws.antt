@@ -7,7 +7,9 @@ use native.Mathlib.Omega.{arith}
 use borrow.Author.Tests.{ltb-false, le-ltb, ne_eqb}
 use lib.Dec.{ltb, eqb}
 use Rattle.laws.proofs.Bools.{or_neither}
-use Rattle.field.specs.Refused.{mean_row, MOST, LEAST_PROTEIN, LEAST_BEEF_FAT, class_of}
+use Rattle.field.specs.Refused.{mean_row, MOST, LEAST_PROTEIN, LEAST_BEEF_FAT}
+use Rattle.field.specs.declared.class.Class.{Class}
+use Rattle.field.specs.Class.{class_of, is_ground_beef}
 use Rattle.field.specs.declared.Means.{Means}
 use Rattle.difference.specs.declared.analyte.Analyte.{Analyte}
 use Rattle.difference.specs.declared.analyte.Analyte.TheVariants.{Moisture, Protein, Fat, Salt}
@@ -45,10 +47,10 @@ pub mean_rows : (product : ℕ) (m : Means) → let class = class_of product in
 unfolding mean_row bad_mean least_mean
 mean_rows product m =
     by_analyte_lem (ltb MOST m.moisture) (ltb MOST m.protein) (ltb MOST m.fat) (ltb MOST m.salt) (ltb m.protein LEAST_PROTEIN)
-    (eqb m.fat 0) (eqb (class_of product) 1 && ltb m.fat LEAST_BEEF_FAT)
-    ∙ rw (fat_row (eqb (class_of product) 1) m.fat, le-ltb m.moisture 0 (omega arith), le-ltb m.salt 0 (omega arith))
+    (eqb m.fat 0) (is_ground_beef (class_of product) && ltb m.fat LEAST_BEEF_FAT)
+    ∙ rw (fat_row (is_ground_beef (class_of product)) m.fat, le-ltb m.moisture 0 (omega arith), le-ltb m.salt 0 (omega arith))
 
-pub good_mean : (class : ℕ) (analyte : Analyte) (m : ℕ) → bad_mean class analyte m ≡ false → GoodMean class analyte m
+pub good_mean : (class : Class) (analyte : Analyte) (m : ℕ) → bad_mean class analyte m ≡ false → GoodMean class analyte m
 unfolding bad_mean
 good_mean class analyte m e =
     let b = or_neither (ltb m (least_mean class analyte)) (ltb MOST m) e in

@@ -1,9 +1,9 @@
 -- Bounds of the standardizing value: the powers are asked for means that they have, the product fits 32 bits, and it is not 0. Assumes nothing.
 use mathlib.Core.Bool.{Bool, cond, ◌&&◌}
-use Prim.Native.Nat.{ℕ, zero, suc, ◌≤◌, ◌<◌}
-use native.Mathlib.Nat.{mul-le-mul, mod-lt}
+use Prim.Native.Nat.{ℕ, ◌≤◌, ◌<◌}
+use native.Mathlib.Nat.{mul-le-mul}
 use native.Mathlib.Omega.{arith}
-use lib.Dec.{eqb, leb, ltb, lit<, lit≤}
+use lib.Dec.{leb, ltb, lit≤}
 use borrow.Author.Tests.{ltb-false}
 use Rattle.laws.proofs.Cond.{cases}
 use Rattle.difference.proofs.PowerList.{power_positive}
@@ -12,40 +12,43 @@ use Rattle.difference.specs.declared.analyte.Analyte.{Analyte}
 use Rattle.difference.specs.declared.analyte.Analyte.TheVariants.{Moisture, Protein, Fat, Salt}
 use Rattle.difference.specs.declared.coefficient.Coefficient.{Coefficient}
 use Rattle.difference.specs.declared.coefficient.Coefficient.TheVariants.{Constant, P, Q}
-use Rattle.difference.proofs.Coefficients.{thousandths}
-use Rattle.field.specs.Refused.{MOST, LEAST_PROTEIN, LEAST_BEEF_FAT, class_of, is_dry}
+use Rattle.field.specs.Refused.{MOST, LEAST_PROTEIN, LEAST_BEEF_FAT, is_dry}
+use Rattle.field.specs.declared.class.Class.{Class}
+use Rattle.field.specs.declared.class.Class.TheVariants.{CuredPork, GroundBeef, OtherMeat, Poultry}
+use Rattle.field.specs.Class.{class_of, is_ground_beef}
 use Rattle.difference.specs.Difference.{moisture, fat, salt, coefficient_for, coefficient_of, value_by, value_of, tenths_of, power_of}
 use Rattle.difference.specs.Standardize.{least_mean}
 use Rattle.difference.specs.bounds.Means.{GoodMean}
 
 -- ---- what the coefficient of a good mean can be
 
-moisture_small : (class : ℕ) → class < 4 → (1 ≤ thousandths (moisture class)) × (thousandths (moisture class) ≤ 710)
-moisture_small zero h = omega arith
-moisture_small (suc zero) h = omega arith
-moisture_small (suc (suc zero)) h = omega arith
-moisture_small (suc (suc (suc zero))) h = omega arith
-moisture_small (suc (suc (suc (suc n)))) h = absurd (omega arith)
+abbrev pub thousandths : Coefficient → ℕ
+thousandths (Constant k) = k
+thousandths (P k) = k
+thousandths (Q k) = k
 
-protein_mean : (class m : ℕ) → GoodMean class Protein m → LEAST_PROTEIN ≤ m
+protein_mean : (class : Class) (m : ℕ) → GoodMean class Protein m → LEAST_PROTEIN ≤ m
 unfolding least_mean
 protein_mean class m g = g.least
 
-fat_mean : (class m : ℕ) → GoodMean class Fat m → 1 ≤ m
+fat_mean : (class : Class) (m : ℕ) → GoodMean class Fat m → 1 ≤ m
 unfolding least_mean
 fat_mean class m g =
-    cases (λ (n : ℕ). n ≤ m → 1 ≤ m) (eqb class 1) LEAST_BEEF_FAT 1 (λ _ h. omega arith) (λ _ h. h) g.least
+    cases (λ (n : ℕ). n ≤ m → 1 ≤ m) (is_ground_beef class) LEAST_BEEF_FAT 1 (λ _ h. omega arith) (λ _ h. h) g.least
 
-module _ (H : Coefficient → Type 0) (class : ℕ) (dry : Bool) (m : ℕ) (small : class < 4)
+module _ (H : Coefficient → Type 0) (dry : Bool) (m : ℕ)
     (constant : (k : ℕ) → 1 ≤ k → k ≤ 710 → H (Constant k)) (p : LEAST_PROTEIN ≤ m → H (P 60))
     (q : (k : ℕ) → 1 ≤ k → k ≤ 710 → 1 ≤ m → H (Q k)) where
-  of_moisture : H (moisture class)
-  of_moisture = constant (thousandths (moisture class)) (moisture_small class small).0 (moisture_small class small).1
+  of_moisture : (class : Class) → H (moisture class)
+  of_moisture CuredPork = constant 500 (lit≤ tt) (lit≤ tt)
+  of_moisture GroundBeef = constant 710 (lit≤ tt) (lit≤ tt)
+  of_moisture OtherMeat = constant 570 (lit≤ tt) (lit≤ tt)
+  of_moisture Poultry = constant 570 (lit≤ tt) (lit≤ tt)
 
-  of_fat : 1 ≤ m → H (fat class m)
+  of_fat : (class : Class) → 1 ≤ m → H (fat class m)
   unfolding fat
-  of_fat some =
-      cases H (eqb class 1) (Q 350) (cond (ltb m 1250) (Q 260) (Q 300))
+  of_fat class some =
+      cases H (is_ground_beef class) (Q 350) (cond (ltb m 1250) (Q 260) (Q 300))
       (λ _. q 350 (lit≤ tt) (lit≤ tt) some)
       (λ _. cases H (ltb m 1250) (Q 260) (Q 300)
       (λ _. q 260 (lit≤ tt) (lit≤ tt) some)
@@ -60,12 +63,12 @@ module _ (H : Coefficient → Type 0) (class : ℕ) (dry : Bool) (m : ℕ) (smal
       (λ _. constant 220 (lit≤ tt) (lit≤ tt))
       (λ _. q 127 (lit≤ tt) (lit≤ tt) (omega (arith, ltb-false m 100 e))))
 
-  pub each : (analyte : Analyte) → GoodMean class analyte m → H (coefficient_for class dry analyte m)
+  pub each : (class : Class) (analyte : Analyte) → GoodMean class analyte m → H (coefficient_for class dry analyte m)
   unfolding coefficient_for
-  each Moisture good = of_moisture
-  each Protein good = p (protein_mean class m good)
-  each Fat good = of_fat (fat_mean class m good)
-  each Salt good = of_salt
+  each class Moisture good = of_moisture class
+  each class Protein good = p (protein_mean class m good)
+  each class Fat good = of_fat class (fat_mean class m good)
+  each class Salt good = of_salt
 
 -- a mean of at least LEAST_PROTEIN hundredths is at least 1 tenth
 tenths_positive : {m : ℕ} → LEAST_PROTEIN ≤ m → m ≤ MOST → 1 ≤ power_of (tenths_of m)
@@ -75,7 +78,7 @@ tenths_positive {m} h l = power_positive (tenths_of m) (omega arith) (omega arit
 
 module _ (product : ℕ) (analyte : Analyte) (m : ℕ) (good : GoodMean (class_of product) analyte m) where
   abbrev theirs : (H : Coefficient → Type 0) → ((k : ℕ) → 1 ≤ k → k ≤ 710 → H (Constant k)) → (LEAST_PROTEIN ≤ m → H (P 60)) → ((k : ℕ) → 1 ≤ k → k ≤ 710 → 1 ≤ m → H (Q k)) → H (coefficient_of product analyte m)
-  theirs H constant p q = each H (class_of product) (is_dry product) m (mod-lt product (lit< tt)) constant p q analyte good
+  theirs H constant p q = each H (is_dry product) m constant p q (class_of product) analyte good
 
   pub coefficient_small : thousandths (coefficient_of product analyte m) ≤ 710
   coefficient_small = theirs (λ (c : Coefficient). thousandths c ≤ 710) (λ k _ h. h) (λ _. lit≤ tt) (λ k _ h _. h)

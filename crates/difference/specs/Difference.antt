@@ -1,6 +1,9 @@
 -- Document 01, "Standardizing value and difference", from the mean to the standardizing value and the difference.
-use Rattle.std.specs.Prelude.{ℕ, suc, ◌+◌, ◌*◌, ◌/◌, ◌^◌, ◌≤◌, min, Bool, cond, ◌&&◌, [], ◌∷◌, ℤ, pos, negsuc, neg_ℤ, ◌-ℤ◌, eqb, leb, ltb, get_or}
-use Rattle.field.specs.Refused.{MOST, class_of, is_dry}
+use Rattle.std.specs.Prelude.{ℕ, suc, ◌+◌, ◌*◌, ◌/◌, ◌^◌, ◌≤◌, min, Bool, cond, ◌&&◌, ℤ, pos, negsuc, neg_ℤ, ◌-ℤ◌, leb, ltb}
+use Rattle.field.specs.Refused.{MOST, is_dry}
+use Rattle.field.specs.declared.class.Class.{Class}
+use Rattle.field.specs.declared.class.Class.TheVariants.{CuredPork, GroundBeef, OtherMeat, Poultry}
+use Rattle.field.specs.Class.{class_of, is_ground_beef}
 use Rattle.difference.specs.declared.analyte.Analyte.{Analyte}
 use Rattle.difference.specs.declared.analyte.Analyte.TheVariants.{Moisture, Protein, Fat, Salt}
 use Rattle.difference.specs.declared.coefficient.Coefficient.{Coefficient}
@@ -41,21 +44,24 @@ tenths_of m = nearest m 10
 
 -- The coefficient k, in thousandths, is a `Constant`, or goes with the protein power, `P`, or with the q above, `Q`.
 -- moisture: k by class 500, 710, 570, 570; constant
-abbrev pub moisture : ℕ → Coefficient
-moisture class = Constant (get_or (500 ∷ 710 ∷ 570 ∷ 570 ∷ []) class 0)
+abbrev pub moisture : Class → Coefficient
+moisture CuredPork = Constant 500
+moisture GroundBeef = Constant 710
+moisture OtherMeat = Constant 570
+moisture Poultry = Constant 570
 
 abbrev pub protein : Coefficient
 protein = P 60
 
 -- fat: k = 260 for m below 1250, else 300; ground beef 350
-unfoldable pub fat : ℕ → ℕ → Coefficient
-fat class m = cond (eqb class 1) (Q 350) (cond (ltb m 1250) (Q 260) (Q 300))
+unfoldable pub fat : Class → ℕ → Coefficient
+fat class m = cond (is_ground_beef class) (Q 350) (cond (ltb m 1250) (Q 260) (Q 300))
 
 -- salt: k = 127 constant for m below 100; from 100 on with q, but bit 7 with m at least 400 gives k = 220 constant
 unfoldable pub salt : Bool → ℕ → Coefficient
 salt dry m = cond (ltb m 100) (Constant 127) (cond (leb 400 m && dry) (Constant 220) (Q 127))
 
-unfoldable pub coefficient_for : ℕ → Bool → Analyte → ℕ → Coefficient
+unfoldable pub coefficient_for : Class → Bool → Analyte → ℕ → Coefficient
 coefficient_for class dry Moisture m = moisture class
 coefficient_for class dry Protein m = protein
 coefficient_for class dry Fat m = fat class m

@@ -1,8 +1,10 @@
 -- One reading on its own: document 01's rows 5 to 7 of "Refused", else its standardizing value, difference and contributions.
-use Rattle.std.specs.Prelude.{ℕ, Bool, cond, ◌||◌, eqb, ltb, Result, Ok, Err}
+use Rattle.std.specs.Prelude.{ℕ, Bool, cond, ◌||◌, ltb, Result, Ok, Err}
 use Rattle.rows.specs.declared.refusal.Refusal.{Refusal}
 use Rattle.rows.specs.declared.refusal.Refusal.TheVariants.{Product, Mean, Reading}
-use Rattle.field.specs.Refused.{MOST, LEAST_PROTEIN, LEAST_BEEF_FAT, class_of, product_row}
+use Rattle.field.specs.Refused.{MOST, LEAST_PROTEIN, LEAST_BEEF_FAT, product_row}
+use Rattle.field.specs.declared.class.Class.{Class}
+use Rattle.field.specs.Class.{class_of, is_ground_beef}
 use Rattle.difference.specs.declared.analyte.Analyte.{Analyte}
 use Rattle.difference.specs.declared.analyte.Analyte.TheVariants.{Moisture, Protein, Fat, Salt}
 use Rattle.difference.specs.declared.difference.Difference.{Difference}
@@ -12,14 +14,14 @@ use Rattle.difference.specs.Difference.{value_of, distance, difference_of}
 use Rattle.difference.specs.Contribution.{food, contributions_of}
 
 -- Row 6 for each analyte, the least mean of a valid line: protein from 5, fat from 1, ground beef's fat from 1250
-unfoldable pub least_mean : ℕ → Analyte → ℕ
+unfoldable pub least_mean : Class → Analyte → ℕ
 least_mean class Moisture = 0
 least_mean class Protein = LEAST_PROTEIN
-least_mean class Fat = cond (eqb class 1) LEAST_BEEF_FAT 1
+least_mean class Fat = cond (is_ground_beef class) LEAST_BEEF_FAT 1
 least_mean class Salt = 0
 
 -- row 6: a mean that no valid line has
-unfoldable pub bad_mean : ℕ → Analyte → ℕ → Bool
+unfoldable pub bad_mean : Class → Analyte → ℕ → Bool
 bad_mean class analyte m = ltb m (least_mean class analyte) || ltb MOST m
 
 -- row 7: a percent above 100.0 is not accepted

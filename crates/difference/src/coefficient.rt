@@ -4,7 +4,7 @@ ghost use Rattle.difference.specs.Difference.{coefficient_of};
 
 use crate::analyte::Analyte;
 use crate::mean::Mean;
-use field::GROUND_BEEF;
+use field::class::Class;
 
 // A coefficient in thousandths, by what it is multiplied by: 1, the protein power p, or the power q of fat and salt.
 #[derive(Clone, Copy)]
@@ -22,7 +22,7 @@ struct Thousandths {
     salt: u32,
 }
 
-// By class.
+// By class, whose number is the place.
 static COEFFICIENTS: [Thousandths; 4] = [
     // cured pork and canned ham
     Thousandths {
@@ -60,18 +60,17 @@ const DRY: u32 = 220;
 
 impl Mean {
     // The coefficient and which power applies.
-    #[tactic(auto, using(crate::proofs::Coefficients::arms))]
+    #[tactic(auto, unfolding(crate::specs::Difference::coefficient_for, crate::specs::Difference::fat, crate::specs::Difference::salt))]
     pub fn coefficient(self) -> Coefficient
         ensures { result ≡ coefficient_of self.product self.analyte self.hundredths }
     {
-        // a number and no enum: it is the place in the table
-        let class = self.product & 3;
+        let class = Class::of(self.product);
         let k = &COEFFICIENTS[class as usize];
         match self.analyte {
             Analyte::Moisture => Coefficient::Constant(k.moisture),
             Analyte::Protein => Coefficient::P(k.protein),
             Analyte::Fat => match class {
-                GROUND_BEEF => Coefficient::Q(k.fat),
+                Class::GroundBeef => Coefficient::Q(k.fat),
                 _ => match self.hundredths {
                     0..=1249 => Coefficient::Q(LEAN),
                     _ => Coefficient::Q(k.fat),

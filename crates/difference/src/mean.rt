@@ -1,12 +1,13 @@
 // The comparison mean of an analyte that a valid line can have. Document 01, "Refused", row 6.
 ghost use Rattle.std.specs.Prelude.{◌≡◌};
 ghost use Rattle.std.proofs.Props.{props};
-ghost use Rattle.field.specs.Refused.{class_of};
+ghost use Rattle.field.specs.Class.{class_of};
 ghost use Rattle.difference.specs.Standardize.{least_mean, bad_mean};
 ghost use Rattle.difference.specs.bounds.Means.{GoodMean};
 
 use crate::analyte::Analyte;
-use field::{GROUND_BEEF, LEAST_BEEF_FAT, LEAST_PROTEIN, MOST};
+use field::class::Class;
+use field::{LEAST_BEEF_FAT, LEAST_PROTEIN, MOST};
 
 // Of an analyte in a product, in hundredths of a percent.
 #[derive(Clone, Copy)]
@@ -19,25 +20,22 @@ pub struct Mean {
 
 // The least mean of an analyte that a valid line of the class has.
 #[tactic(auto, unfolding(crate::specs::Standardize::least_mean))]
-fn least_mean(class: u8, analyte: Analyte) -> u16
+fn least_mean(class: Class, analyte: Analyte) -> u16
     ensures { result ≡ least_mean class analyte }
 {
     match analyte {
         Analyte::Protein => LEAST_PROTEIN,
-        Analyte::Fat => {
-            if class == GROUND_BEEF {
-                LEAST_BEEF_FAT
-            } else {
-                1
-            }
-        }
+        Analyte::Fat => match class {
+            Class::GroundBeef => LEAST_BEEF_FAT,
+            _ => 1,
+        },
         Analyte::Moisture | Analyte::Salt => 0,
     }
 }
 
 // Row 6 for one mean.
 #[tactic(auto, unfolding(crate::specs::Standardize::bad_mean))]
-pub fn bad_mean(class: u8, analyte: Analyte, mean: u16) -> bool
+pub fn bad_mean(class: Class, analyte: Analyte, mean: u16) -> bool
     ensures { result ≡ bad_mean class analyte mean }
 {
     (mean < least_mean(class, analyte)) | (mean > MOST)

@@ -8,6 +8,7 @@ use crate::contribution::Contributions;
 use crate::difference::Difference;
 use crate::distance::standardized;
 use crate::mean::{Mean, bad_mean};
+use field::class::Class;
 use field::{MOST, product_row};
 use rows::refusal::Refusal;
 
@@ -36,8 +37,9 @@ impl Mean {
     }
 }
 
-// One reading of an analyte, by rows 5 to 7 of the table of refusals.
-#[tactic(auto, unfolding(crate::specs::Standardize::standardized_for))]
+// One reading of an analyte, by rows 5 to 7 of the table of refusals. What lasts of product, analyte and mean
+// is a `Mean`; one struct of them and the reading would be made for this call, and taken apart in it.
+#[tactic(auto, unfolding(crate::specs::Standardize::standardized_for), using(crate::proofs::MeanLaws::good_mean))]
 pub fn standardize_for(
     product: u8,
     analyte: Analyte,
@@ -49,7 +51,7 @@ pub fn standardize_for(
     if product_row(product) {
         return Err(Refusal::Product);
     }
-    if bad_mean(product & 3, analyte, mean) {
+    if bad_mean(Class::of(product), analyte, mean) {
         return Err(Refusal::Mean);
     }
     if reading > MOST {
@@ -63,7 +65,7 @@ pub fn standardize_for(
     Ok(mean.figures(reading))
 }
 
-// The same of an analyte by its number.
+// The same of an analyte by its number: any byte, since row 5 answers for those that no analyte has.
 pub fn standardize(product: u8, analyte: u8, mean: u16, reading: u16) -> Result<Figures, Refusal>
     ensures { result ≡ standardized_of product analyte mean reading }
 {

@@ -2,7 +2,8 @@
 use crate::stage::Stage;
 use difference::constants::CHARTS;
 
-// A chart: whether it is over, and the run shown with its sum.
+// A chart: whether it is over, and the run shown with its sum. The definition gives the run of a chart that is
+// not over too, so that an `Option` of it would promise less.
 #[derive(Clone, Copy, Default)]
 pub struct ChartReport {
     pub over: bool,

@@ -16,7 +16,9 @@ use Rattle.laws.proofs.Bools.{or_neither}
 use Rattle.food_line.specs.Fields.{record_of}
 use Rattle.food_line.specs.Amount.{amount_of}
 use Rattle.food_line.specs.Read.{fields_at, line_rows, read_of}
-use Rattle.field.specs.Refused.{MOST, MAINTENANCE, STUDY, kind_row, mean_row, product_row, class_of}
+use Rattle.field.specs.Refused.{MOST, MAINTENANCE, STUDY, kind_row, mean_row, product_row}
+use Rattle.field.specs.declared.class.Class.{Class}
+use Rattle.field.specs.Class.{class_of}
 use Rattle.food_line.specs.declared.fields.Fields.{Fields}
 use Rattle.food_line.specs.declared.record.Record.{Record}
 use Rattle.field.specs.declared.Means.{Means}
@@ -38,7 +40,7 @@ read_clean line r e = let p = read_is line r e in (p.1, clean (fields_at line) (
 
 -- ---- its differences
 
-record GoodMeans (class : ℕ) (m : Means) : Type 0 where
+record GoodMeans (class : Class) (m : Means) : Type 0 where
   moisture : GoodMean class Moisture m.moisture
   protein : GoodMean class Protein m.protein
   fat : GoodMean class Fat m.fat

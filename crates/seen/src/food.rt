@@ -48,7 +48,7 @@ fn difference(product: u8, analyte: Analyte, mean: u16, reading: Reading) -> Dif
 {
     match standardize_for(product, analyte, mean, hundredths_in(reading)) {
         Ok(figures) => figures.difference,
-        Err(_) => Difference { tenths: 0 },
+        Err(_) => Difference::default(),
     }
 }
 

@@ -16,7 +16,8 @@ use residue::see_residue;
 use rows::refusal::Refusal;
 
 // Study or maintenance, the year and the month number, missed or not, the misidentification count, and
-// the analytes' differences.
+// the analytes' differences. A missed line that came late has differences too, so that no `Option` of them
+// could stand for `missed`.
 #[derive(Clone, Copy)]
 pub struct Seen {
     pub study: bool,

@@ -15,7 +15,7 @@ use rows::refusal::Refusal;
 fn difference(compound: u8, comparison: i16, res: Option<i16>) -> Difference
     ensures { result ≡ difference_for compound comparison res }
 {
-    res.map_or(Difference { tenths: 0 }, |log| {
+    res.map_or(Difference::default(), |log| {
         residue_difference(compound, comparison, log)
     })
 }
@@ -24,7 +24,7 @@ fn difference(compound: u8, comparison: i16, res: Option<i16>) -> Difference
 fn see_record(r: Record) -> Seen
     ensures { result ≡ seen_of r }
 {
-    let none = Difference { tenths: 0 };
+    let none = Difference::default();
     let differences = [
         difference(r.compound, r.comparison, r.result),
         none,

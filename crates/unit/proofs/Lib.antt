@@ -23,3 +23,4 @@ pub mod Claimed
 pub mod ResidueUnitLaws
 pub mod MisidentifiedLaws
 pub mod Firsts
+pub mod Fours

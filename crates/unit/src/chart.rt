@@ -1,7 +1,7 @@
 // A chart and how a sample moves it. Document 01, "Stretch and run".
-ghost use Rattle.std.specs.Prelude.{◌≡◌, ◌<◌, ◌+ℤ◌};
+ghost use Rattle.std.specs.Prelude.{◌≡◌, ◌<◌};
 ghost use Rattle.difference.specs.bounds.Numbers.{Moderate};
-ghost use Rattle.grounds.specs.Chart.{raised, next_value, next_first};
+ghost use Rattle.grounds.specs.Chart.{next_value, next_first};
 ghost use Rattle.unit.specs.Charts.{chart_of};
 ghost use Rattle.unit.specs.Stretch.{FULL};
 ghost use Rattle.unit.specs.bounds.Numbers.{Roomy};
@@ -13,27 +13,18 @@ pub struct Chart {
     pub first: u16,
 }
 
-// A value with a contribution added. A sum below 0 becomes 0.
-fn added(value: i32, x: i32) -> i32
-    requires { Roomy value × Moderate x }
-    ensures { result ≡ raised (value +ℤ x) }
-{
-    (value + x).max(0)
-}
-
-// The bounds of `before`, value and contribution stand in `step` and in what it calls, once each: a type
-// for them would be made and taken apart in one call.
-
 // The value after a sample that contributes `x`, where `before` samples of the stretch stand before
-// it. The first sets the chart to its contribution, negative or not; each later one adds it.
+// it. The first sets the chart to its contribution, negative or not; each later one adds it, and a sum
+// below 0 becomes 0.
 fn next_value(before: u16, value: i32, x: i32) -> i32
     requires { Roomy value × Moderate x }
     ensures { result ≡ next_value before value x }
 {
-    if before == 0 { x } else { added(value, x) }
+    if before == 0 { x } else { (value + x).max(0) }
 }
 
-// The first sample of the run shown after this sample.
+// The first sample of the run shown after this sample. That `before` has room for one more is asked here, in
+// `step` and by what moves the charts: a type for it would be made once and read once.
 fn next_first(before: u16, value: i32, first: u16) -> u16
     requires { before < FULL }
     ensures { result ≡ next_first before value first }

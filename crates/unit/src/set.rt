@@ -21,7 +21,9 @@ pub struct Set {
     pub sums: [Sums; ANALYTES],
 }
 
-// An analyte's sums after one more line of a set that is not full.
+// An analyte's sums after one more line of a set that is not full. That a difference is at most 999 is asked
+// here and by what calls this: a type for it, as `Known`, would be made once, of the four in `take_seen`, and
+// read once, here.
 fn add(sums: Sums, d: Difference) -> Sums
     requires { SumsBounded (SET - 1) sums × (nat_abs d.tenths ≤ CAP) }
     ensures { result ≡ added_of sums d.tenths }

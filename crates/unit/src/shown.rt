@@ -1,24 +1,11 @@
 // What the status shows of the charts.
 ghost use Rattle.std.specs.Prelude.{◌≡◌};
-ghost use Rattle.unit.specs.Status.{report_for, reports_of, mask_of};
+ghost use Rattle.unit.specs.Status.{reports_of, mask_of};
 
-use crate::chart::Chart;
 use crate::known::Known;
 use crate::stretch::{Stretch, is_over};
 use difference::constants::{CHARTS, EACH};
 use reply::report::ChartReport;
-
-// A chart, by whether it is over and the stretch's last sample, at which the run shown ends.
-fn report_for(over: bool, last: u16, chart: Chart) -> ChartReport
-    ensures { result ≡ report_for over last chart }
-{
-    ChartReport {
-        over,
-        first: chart.first,
-        last,
-        value: chart.value,
-    }
-}
 
 // The charts by number. Of one that the category does not have nothing is shown.
 pub fn reports(c: Known, s: Stretch) -> [ChartReport; CHARTS]
@@ -32,7 +19,12 @@ pub fn reports(c: Known, s: Stretch) -> [ChartReport; CHARTS]
     for n in 0..EACH * c.constants.analytes {
         let i = usize::from(n);
         let chart = charts[i];
-        reports[i] = report_for(is_over(c, n, chart), last, chart);
+        reports[i] = ChartReport {
+            over: is_over(c, n, chart),
+            first: chart.first,
+            last,
+            value: chart.value,
+        };
     }
     reports
 }

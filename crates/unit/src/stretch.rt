@@ -65,23 +65,27 @@ pub fn sampled(c: Known, s: Stretch, year: u16, d: [Difference; ANALYTES]) -> St
     }
 }
 
-// Whether a chart is over: its value is above its limit.
+// Whether a chart is over: its value is above its limit. The number is the chart's, or its place among its
+// analyte's four. A number and no enum: document 01 numbers the charts, and the numbers come from places in a
+// list.
 pub fn is_over(c: Known, n: u8, chart: Chart) -> bool
     ensures { result ≡ is_over c.constants n chart }
 {
     chart.value > c.constants.limit(n % EACH)
 }
 
+// The charts of an analyte, as a length.
+const FOUR: usize = EACH as usize;
+
 // Whether any chart is over.
 pub fn any_over(c: Known, charts: [Chart; CHARTS]) -> bool
     ensures { result ≡ any_over c.constants charts }
 {
     let mut over = false;
-    // analyte by analyte, so that each chart's limit is known when the program is built
-    for a in 0..c.constants.analytes {
-        for k in 0..EACH {
-            let n = EACH * a + k;
-            over |= is_over(c, n, charts[usize::from(n)]);
+    let (fours, _) = charts.as_chunks::<FOUR>();
+    for four in &fours[..usize::from(c.constants.analytes)] {
+        for (k, &chart) in four.iter().enumerate() {
+            over |= is_over(c, k as u8, chart);
         }
     }
     over

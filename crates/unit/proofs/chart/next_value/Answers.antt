@@ -1,5 +1,5 @@
 -- `next_value` meets its contract, at the first sample of a stretch and at a later one.
-use Rattle.std.proofs.Common.{◌≡◌, ◌-◌, suc, w32, to_z, of_z, arith, rules}
+use Rattle.std.proofs.Common.{◌≡◌, ◌-◌, suc, arith, rules}
 use Rattle.std.proofs.Math.Facts.{to_z-of_z}
 use Rattle.grounds.specs.Chart.{next_value}
 use Rattle.unit.proofs.chart.next_value.Goals as goal
@@ -12,5 +12,4 @@ pub returns-else-before-eq0 : goal.returns-else-before-eq0
 unfolding next_value
 returns-else-before-eq0 c =
     let later : c.args.before ≡ suc (c.args.before - 1) = omega (arith, c.if-before-eq0.false) in
-    let sum : to_z w32 (of_z w32 c.added.result) ≡ c.added.result = to_z-of_z {w = w32} (search rules) in
-    rw (sum, c.added.ensures, later) (simp (to_z-of_z c.ranges.value, to_z-of_z c.ranges.x))
+    rw later (search rules)

@@ -6,8 +6,8 @@ use Rattle.unit.specs.Charts.{is_over}
 use Rattle.unit.specs.Stretch.{chart_at}
 use Rattle.unit.proofs.stretch.any_over.Given as goal
 
-abbrev pub invariant-loop-a : goal.invariant-loop-a
-invariant-loop-a l = l.over ≡ any_below (EACH * l.a) (λ (i : ℕ). is_over l.c.constants i (chart_at l.charts i))
-
 abbrev pub invariant-loop-k : goal.invariant-loop-k
-invariant-loop-k l = l.over ≡ any_below (EACH * l.a + l.k) (λ (i : ℕ). is_over l.c.constants i (chart_at l.charts i))
+invariant-loop-k l = l.over ≡ any_below (EACH * l.four-index + l.k) (λ (i : ℕ). is_over l.c.constants i (chart_at l.fn.charts i))
+
+abbrev pub invariant-loop-four : goal.invariant-loop-four
+invariant-loop-four l = l.over ≡ any_below (EACH * l.four-index) (λ (i : ℕ). is_over l.c.constants i (chart_at l.fn.charts i))
