@@ -11,8 +11,9 @@ use difference::standardize::{Figures, standardize};
 use digits::byte_in;
 use rows::refusal::Refusal;
 
-// The descriptor of standard input. Three programs' crates read it so: a function for the two lines would
-// want a crate of its own.
+// The descriptor of standard input, which is read into a buffer and counted: std's reader would reach a C call
+// more, `lseek`, and nothing new is trusted. `lines` and two programs read so, in two lines: a function would
+// be lent the buffer, and be called in two lines as well.
 const STDIN: i32 = 0;
 
 // A row: 12 digits, and the newline that ends it.

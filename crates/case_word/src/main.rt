@@ -10,8 +10,9 @@ ghost use Rattle.case_word.specs.Answer.{answer_of};
 use digits::read_word;
 use rows::refusal::Refusal;
 
-// The descriptor of standard input. Three programs' crates read it so: a function for the two lines would
-// want a crate of its own.
+// The descriptor of standard input, which is read into a buffer and counted: std's reader would reach a C call
+// more, `lseek`, and nothing new is trusted. `lines` and two programs read so, in two lines: a function would
+// be lent the buffer, and be called in two lines as well.
 const STDIN: i32 = 0;
 
 // How many characters a row has, and how many bytes with its newline.

@@ -1,25 +1,21 @@
 -- The loop that feeds: what stands before each line, and what a part of a line and its end do to it. Assumes nothing.
 use Prim.Native.Nat.{ℕ, suc, ◌+◌, ◌-◌, ◌≤◌, ◌<◌}
 use mathlib.Core.Path.{◌≡◌, refl, sym, ap, ◌∙◌}
-use mathlib.Core.Bool.{true, false, ◌&&◌}
-use mathlib.Core.Logic.{⊎_elim}
-use mathlib.Core.List.{List, [], ◌∷◌, ◌++◌, append-nil}
+use mathlib.Core.Bool.{false, not, ◌&&◌}
+use mathlib.Core.List.{List, [], ◌∷◌, ◌++◌, append_assoc, append-nil}
 use native.Mathlib.Nat.{zero-add}
-use native.Mathlib.Numerals.{add-one}
 use native.Mathlib.Omega.{arith}
-use borrow.Author.Tests.{lt-ltb, le-ltb, eq-eqb, ltb-false, leb-false}
-use lib.Dec.{ltb, leb}
-use lib.ListN.{length, take, drop, get_or, length-append, length-drop, drop_of_length-le, take-append-drop}
-use lib.Seq.{take-suc, take-add, take_all, drop-cons, drop-drop, get_or-drop}
-use Rattle.laws.proofs.Bools.{either}
+use borrow.Author.Tests.{lt-ltb, le-ltb, eq-eqb, ne_eqb, leb-false}
+use lib.Dec.{eqb, leb}
+use lib.ListN.{length, take, length-append}
+use lib.Seq.{take-append_seam}
 use Rattle.console.specs.declared.Contents.{Contents as Console}
-use Rattle.console.specs.declared.Fed.{Fed}
 use Rattle.text.specs.Buffer.{with_text, put_text, put_place}
 use Rattle.text.specs.bounds.Room.{ANSWER, STATUS}
-use Rattle.console.specs.Lines.{Before}
+use Rattle.console.specs.Lines.{has_newline}
 use Rattle.console.specs.State.{stepped_of, step_text, console_after, text_after}
 use Rattle.console.specs.Stands.{Reached}
-use Rattle.console.specs.Feed.{takes, fed_of, fed_buffer, Progress, Continued, FeedKept}
+use Rattle.console.specs.Feed.{takes, fed_of, fed_buffer, Continued, FeedKept}
 use Rattle.text.specs.Text.{NEWLINE, answer_text, status_text}
 use Rattle.reply.specs.declared.report.Report.{Report}
 use Rattle.unit.specs.Take.{taken_of}
@@ -31,34 +27,33 @@ use Rattle.text.proofs.BufferLaws.{with_text_none, with_text_append, with_text_l
 use Rattle.text.proofs.PutLaws.{put_there}
 use Rattle.console.proofs.AnswerLaws.{line_given, printed_length}
 use Rattle.console.proofs.StandLaws.{none_held, step_newline, made_after, stands_after}
-use Rattle.console.proofs.PartLaws.{part_length, console_append, text_append, part_text, part_takes}
+use Rattle.console.proofs.PartLaws.{console_append, text_append, part_text, part_takes}
 use Rattle.console.proofs.KeptLaws.{unit_after_lem}
 
--- `taken` bytes are taken, their text is written, and what is still taken depends on the rest of the input and of the room
-pub record Going (c₀ : Console) (input output₀ : List ℕ) (c : Console) (output : List ℕ) (taken written : ℕ) : Type 0 where
-  pub within : taken ≤ length input
+-- `done` is taken and its text is written, and what is still taken depends on the rest of the input and of the room
+pub record Going (c₀ : Console) (input output₀ : List ℕ) (c : Console) (output rest : List ℕ) (written : ℕ) : Type 0 where
+  pub done : List ℕ
+  pub cut : input ≡ done ++ rest
   pub fits : written ≤ length output₀
-  pub state : c ≡ console_after c₀ (take taken input)
-  pub place : written ≡ length (text_after c₀ (take taken input))
-  pub text : output ≡ with_text output₀ 0 (text_after c₀ (take taken input))
-  pub left : takes c₀ input (length output₀) ≡ taken + takes c (drop taken input) (length output₀ - written)
+  pub state : c ≡ console_after c₀ done
+  pub place : written ≡ length (text_after c₀ done)
+  pub text : output ≡ with_text output₀ 0 (text_after c₀ done)
+  pub left : takes c₀ input (length output₀) ≡ length done + takes c rest (length output₀ - written)
 
 -- ---- how much is taken
 
-takes_more : (input : List ℕ) (c : Console) (i room : ℕ) → i < length input → STATUS ≤ room
-    → takes c (drop i input) room ≡ suc (takes (stepped_of c (get_or input i 0)) (drop (i + 1) input) (room - length (step_text c (get_or input i 0))))
+takes_more : (c : Console) (x : ℕ) (xs : List ℕ) (room : ℕ) → STATUS ≤ room
+    → takes c (x ∷ xs) room ≡ suc (takes (stepped_of c x) xs (room - length (step_text c x)))
 unfolding takes
-takes_more input c i room h k = rw (drop-cons input i 0 h, le-ltb room STATUS k, add-one i)
+takes_more c x xs room k = rw (le-ltb room STATUS k) refl
 
 -- all of the input is taken, or no room is left
-takes_end : (input : List ℕ) (c : Console) (i : ℕ) → length input ≤ i → (room : ℕ) → takes c (drop i input) room ≡ 0
+takes_end : (c : Console) (xs : List ℕ) (room : ℕ) → (not (eqb (length xs) 0) && leb STATUS room) ≡ false → takes c xs room ≡ 0
 unfolding takes
-takes_end input c i h room = rw (drop_of_length-le input h)
-
-takes_full : (c : Console) (xs : List ℕ) (room : ℕ) → room < STATUS → takes c xs room ≡ 0
-unfolding takes
-takes_full c [] room h = refl
-takes_full c (x ∷ xs) room h = rw (lt-ltb room STATUS h)
+takes_end c [] room e = refl
+takes_end c (x ∷ xs) room e =
+    let full : room < STATUS = leb-false STATUS room (rw (ne_eqb (length (x ∷ xs)) 0 (λ z. omega arith)) at e) in
+    rw (lt-ltb room STATUS full) refl
 
 -- with an input and room for a status something is taken
 pub takes_some : (c : Console) (xs : List ℕ) (room : ℕ) → 0 < length xs → STATUS ≤ room → 0 < takes c xs room
@@ -66,166 +61,125 @@ unfolding takes
 takes_some c [] room h k = absurd (omega arith)
 takes_some c (x ∷ xs) room h k = rw (le-ltb room STATUS k) (omega arith)
 
--- ---- what follows i bytes of the input: it is all that is left, and its first newline is the input's
-
-pub all_left : (input : List ℕ) (i : ℕ) → take (length input - i) (drop i input) ≡ drop i input
-all_left input i = let size : length (drop i input) ≤ length input - i = omega (arith, length-drop i input) in take_all (length input - i) (drop i input) size
-
-before_within : (input : List ℕ) (i n : ℕ) → i ≤ length input → Before (drop i input) n → i + n ≤ length input
-before_within input i n h b = omega (arith, b.within, length-drop i input)
-
-pub before_newline : (input : List ℕ) (i n : ℕ) → Before (drop i input) n → i + n < length input → get_or input (i + n) 0 ≡ NEWLINE
-before_newline input i n b h = sym (get_or-drop i input n 0) ∙ b.there (omega (arith, length-drop i input))
-
--- what is handed back
-abbrev pub Handed : Console → List ℕ → List ℕ → Console → List ℕ → ℕ → ℕ → Type 0
-Handed c₀ input output₀ c output i w =
-    (record { console = c; taken = i; written = w } ≡ fed_of c₀ input (length output₀)) × (output ≡ fed_buffer c₀ input output₀)
-
 -- ---- the turns of the loop
 
 module _ {c₀ : Console} {input output₀ : List ℕ} where
-  pub going_start : Going c₀ input output₀ c₀ output₀ 0 0
+  pub going_start : Going c₀ input output₀ c₀ output₀ input 0
   going_start =
       let room : length output₀ - 0 ≡ length output₀ = omega arith in
-      record { within = omega arith; fits = omega arith; state = refl; place = refl; text = sym (with_text_none output₀ 0); left = rw (room, zero-add) }
+      record { done = []; cut = refl; fits = omega arith; state = refl; place = refl; text = sym (with_text_none output₀ 0); left = rw (room, zero-add) }
 
-  going_on : {c : Console} {output : List ℕ} {i w : ℕ} → Going c₀ input output₀ c output i w → i < length input → STATUS ≤ length output₀ - w
-      → length (step_text c (get_or input i 0)) ≤ STATUS
-      → Going c₀ input output₀ (stepped_of c (get_or input i 0)) (with_text output w (step_text c (get_or input i 0))) (i + 1)
-      (w + length (step_text c (get_or input i 0)))
-  going_on {c} {output} {i} {w} g h k a =
-      let x = get_or input i 0 in
-      let step = step_text c x in
-      let text = text_after c₀ (take i input) in
-      let next : take (i + 1) input ≡ take i input ++ x ∷ [] = rw add-one (take-suc input i 0 h) in
-      let more : text_after c₀ (take (i + 1) input) ≡ text ++ step =
-      ap (text_after c₀) next ∙ text_append c₀ (take i input) (x ∷ []) ∙ ap (λ (d : Console). text ++ (step_text d x ++ [])) (sym g.state) ∙ ap (λ (t : List ℕ). text ++ t) (append-nil step) in
-      let here : w ≡ 0 + length text = omega (arith, g.place) in
-      let room : length output₀ - (w + length step) ≡ length output₀ - w - length step = omega arith in
+  -- some of the rest is taken
+  going_by : {c : Console} {output rest : List ℕ} {w : ℕ} → Going c₀ input output₀ c output rest w → (more next text : List ℕ) → rest ≡ more ++ next
+      → text_after c more ≡ text → length text ≤ length output₀ - w
+      → takes c rest (length output₀ - w) ≡ length more + takes (console_after c more) next (length output₀ - w - length text)
+      → Going c₀ input output₀ (console_after c more) (with_text output w text) next (w + length text)
+  going_by {c} {output} {rest} {w} g more next text cut t k left =
+      let all = text_after c₀ g.done in
+      let grown : text_after c₀ (g.done ++ more) ≡ all ++ text =
+      text_append c₀ g.done more ∙ ap (λ (d : Console). all ++ text_after d more) (sym g.state) ∙ ap (λ (u : List ℕ). all ++ u) t in
+      let here : w ≡ 0 + length all = omega (arith, g.place) in
+      let room : length output₀ - (w + length text) ≡ length output₀ - w - length text = omega arith in
       record {
-        within = omega arith;
+        done = g.done ++ more;
+        cut = g.cut ∙ ap (λ (l : List ℕ). g.done ++ l) cut ∙ sym (append_assoc g.done more next);
         fits = omega (arith, g.fits);
-        state = ap (λ (d : Console). stepped_of d x) g.state ∙ sym (console_append c₀ (take i input) (x ∷ [])) ∙ ap (console_after c₀) (sym next);
-        place = ap (λ (n : ℕ). n + length step) g.place ∙ sym (length-append text step) ∙ ap length (sym more);
+        state = ap (λ (d : Console). console_after d more) g.state ∙ sym (console_append c₀ g.done more);
+        place = ap (λ (n : ℕ). n + length text) g.place ∙ sym (length-append all text) ∙ ap length (sym grown);
         text =
-            ap (λ (b : List ℕ). with_text b w step) g.text
-            ∙ ap (λ (n : ℕ). with_text (with_text output₀ 0 text) n step) here
-            ∙ with_text_append output₀ 0 text step (omega (arith, g.fits, g.place))
-            ∙ ap (with_text output₀ 0) (sym more);
-        left = g.left ∙ rw (takes_more input c i (length output₀ - w) h k, room) (omega arith);
+            ap (λ (b : List ℕ). with_text b w text) g.text
+            ∙ ap (λ (n : ℕ). with_text (with_text output₀ 0 all) n text) here
+            ∙ with_text_append output₀ 0 all text (omega (arith, g.fits, g.place))
+            ∙ ap (with_text output₀ 0) (sym grown);
+        left = g.left ∙ rw (left, room, length-append g.done more) (omega arith);
       }
 
   -- the output is as long as it was
-  pub going_length : {c : Console} {output : List ℕ} {i w : ℕ} → Going c₀ input output₀ c output i w → length output ≡ length output₀
-  going_length {c} {output} {i} {w} g = ap length g.text ∙ with_text_length output₀ 0 (text_after c₀ (take i input)) (omega (arith, g.fits, g.place))
+  pub going_length : {c : Console} {output rest : List ℕ} {w : ℕ} → Going c₀ input output₀ c output rest w → length output ≡ length output₀
+  going_length g = ap length g.text ∙ with_text_length output₀ 0 (text_after c₀ g.done) (omega (arith, g.fits, g.place))
 
   -- ---- the parts of a turn
 
-  module _ {c : Console} {output : List ℕ} {i w : ℕ} (g : Going c₀ input output₀ c output i w) (k : STATUS ≤ length output₀ - w) where
+  module _ {c : Console} {output rest : List ℕ} {w : ℕ} (g : Going c₀ input output₀ c output rest w) (k : STATUS ≤ length output₀ - w) where
     -- a part of a line is held, as far as there is room
-    pub going_part : (n : ℕ) → Before (drop i input) n → Going c₀ input output₀ (console_after c (take n (drop i input))) output (i + n) w
-    going_part n b =
-        let h : i + n ≤ length input = before_within input i n g.within b in
-        let clear = b.clear in
-        let part = take n (drop i input) in
-        let next : take (i + n) input ≡ take i input ++ part = take-add i n input in
-        let state : console_after c part ≡ console_after c₀ (take (i + n) input) =
-        ap (λ (d : Console). console_after d part) g.state ∙ sym (console_append c₀ (take i input) part) ∙ ap (console_after c₀) (sym next) in
-        let text : text_after c₀ (take (i + n) input) ≡ text_after c₀ (take i input) =
-        ap (text_after c₀) next
-        ∙ text_append c₀ (take i input) part
-        ∙ ap (λ (t : List ℕ). text_after c₀ (take i input) ++ t) (part_text (console_after c₀ (take i input)) part clear)
-        ∙ append-nil (text_after c₀ (take i input)) in
-        let cut : drop i input ≡ part ++ drop (i + n) input = sym (take-append-drop n (drop i input)) ∙ ap (λ (t : List ℕ). part ++ t) (drop-drop n i input) in
-        let left : takes c (drop i input) (length output₀ - w) ≡ n + takes (console_after c part) (drop (i + n) input) (length output₀ - w) =
-        ap (λ (t : List ℕ). takes c t (length output₀ - w)) cut
-        ∙ part_takes c part (drop (i + n) input) (length output₀ - w) clear k
-        ∙ ap (λ (m : ℕ). m + takes (console_after c part) (drop (i + n) input) (length output₀ - w)) (part_length input i n h) in
-        record {
-          within = h;
-          fits = g.fits;
-          state = state;
-          place = g.place ∙ ap length (sym text);
-          text = g.text ∙ ap (with_text output₀ 0) (sym text);
-          left = omega (arith, g.left, left);
-        }
+    pub going_part : (part next : List ℕ) → rest ≡ part ++ next → has_newline part ≡ false → Going c₀ input output₀ (console_after c part) output next w
+    going_part part next cut clear =
+        let none : w + 0 ≡ w = omega arith in
+        let same : length output₀ - w - 0 ≡ length output₀ - w = omega arith in
+        let left : takes c rest (length output₀ - w) ≡ length part + takes (console_after c part) next (length output₀ - w - 0) =
+        ap (λ (l : List ℕ). takes c l (length output₀ - w)) cut ∙ rw same (part_takes c part next (length output₀ - w) clear k) in
+        rw (with_text_none output w, none) at (going_by g part next [] cut (part_text c part clear) (omega arith) left)
 
     -- the line ends, and its answer is written
-    going_line : (u : U.Unit) (text : List ℕ) → i < length input → get_or input i 0 ≡ NEWLINE → u ≡ unit_after c.unit c.part → text ≡ printed (answer_to c.unit c.part)
-        → Going c₀ input output₀ (record { unit = u; part = [] }) (with_text output w text) (i + 1) (w + length text)
-    going_line u text h e r t =
-        let p = step_newline c (get_or input i 0) (eq-eqb (get_or input i 0) NEWLINE e) in
-        let fits : length (step_text c (get_or input i 0)) ≤ STATUS = rw p.1 (printed_length (answer_to c.unit c.part)) in
-        rw (r, t) (rw (p.0, p.1) at (going_on g h k fits))
+    going_line : (x : ℕ) (next : List ℕ) (u : U.Unit) (text : List ℕ) → rest ≡ x ∷ next → x ≡ NEWLINE → u ≡ unit_after c.unit c.part → text ≡ printed (answer_to c.unit c.part)
+        → Going c₀ input output₀ (record { unit = u; part = [] }) (with_text output w text) next (w + length text)
+    going_line x next u text cut e r t =
+        let p = step_newline c x (eq-eqb x NEWLINE e) in
+        let step : step_text c x ≡ text = p.1 ∙ sym t in
+        let fits : length text ≤ STATUS = rw t (printed_length (answer_to c.unit c.part)) in
+        let left : takes c rest (length output₀ - w) ≡ 1 + takes (stepped_of c x) next (length output₀ - w - length text) =
+        ap (λ (l : List ℕ). takes c l (length output₀ - w)) cut ∙ takes_more c x next (length output₀ - w) k ∙ rw step (omega arith) in
+        rw (p.0, sym r) at (going_by g (x ∷ []) next text cut (append-nil (step_text c x) ∙ step) (omega arith) left)
 
     room : w + STATUS ≤ length output
     room = omega (arith, k, g.fits, going_length g)
 
     -- an empty one: it is the status, and the console is as it was
-    pub going_empty : (report : Report) (next : List ℕ) (to : ℕ) → i < length input → get_or input i 0 ≡ NEWLINE → length c.part ≡ 0 → report ≡ status_of c.unit
-        → to ≡ put_place STATUS output w (status_text report) → next ≡ put_text STATUS output w (status_text report)
-        → Going c₀ input output₀ c next (i + 1) to
-    going_empty report next to h e z r p t =
+    pub going_empty : (x : ℕ) (next : List ℕ) (report : Report) (put : List ℕ) (to : ℕ) → rest ≡ x ∷ next → x ≡ NEWLINE → length c.part ≡ 0 → report ≡ status_of c.unit
+        → to ≡ put_place STATUS output w (status_text report) → put ≡ put_text STATUS output w (status_text report)
+        → Going c₀ input output₀ c put next to
+    going_empty x next report put to h e z r p t =
         let none : c.part ≡ [] = none_held c.part z in
         let there = put_there STATUS output w (status_text report) room in
         let same : record { unit = c.unit; part = [] } ≡ c = ap (λ (l : List ℕ). record { unit = c.unit; part = l }) (sym none) in
-        let line = going_line c.unit (status_text report) h e (rw none) (rw (none, r)) in
+        let line = going_line x next c.unit (status_text report) h e (rw none) (rw (none, r)) in
         rw (p ∙ there.0, t ∙ there.1) (rw same at line)
 
-    -- any other: it is the event that the unit gives
-    pub going_given : (taken : Taken) (next : List ℕ) (to : ℕ) → i < length input → get_or input i 0 ≡ NEWLINE → (length c.part ≡ 0 → ⊥) → taken ≡ taken_of c.unit c.part
-        → to ≡ put_place ANSWER output w (answer_text taken.event) → next ≡ put_text ANSWER output w (answer_text taken.event)
-        → Going c₀ input output₀ (record { unit = taken.unit; part = [] }) next (i + 1) to
-    going_given taken next to h e n r p t =
+    -- any other: it is the event that the unit gives, and nothing is held
+    pub going_given : (x : ℕ) (next : List ℕ) (taken : Taken) (part put : List ℕ) (to : ℕ) → rest ≡ x ∷ next → x ≡ NEWLINE → (length c.part ≡ 0 → ⊥) → taken ≡ taken_of c.unit c.part
+        → part ≡ [] → to ≡ put_place ANSWER output w (answer_text taken.event) → put ≡ put_text ANSWER output w (answer_text taken.event)
+        → Going c₀ input output₀ (record { unit = taken.unit; part = part }) put next to
+    going_given x next taken part put to h e n r none p t =
         let some = line_given c.unit c.part n in
         let there = put_there ANSWER output w (answer_text taken.event) (omega (arith, room)) in
         let unit : taken.unit ≡ unit_after c.unit c.part = ap (λ (a : Taken). a.unit) r ∙ sym some.1 in
         let text : answer_text taken.event ≡ printed (answer_to c.unit c.part) = ap (λ (a : Taken). answer_text a.event) r ∙ ap printed (sym some.0) in
-        rw (p ∙ there.0, t ∙ there.1) (going_line taken.unit (answer_text taken.event) h e unit text)
+        rw (none, p ∙ there.0, t ∙ there.1) (going_line x next taken.unit (answer_text taken.event) h e unit text)
 
-  pub going_made : {c : Console} {output : List ℕ} {i w : ℕ} → Reached c₀ → Going c₀ input output₀ c output i w → Reached c
-  going_made {c} {output} {i} {w} m g = rw g.state (made_after c₀ (take i input) m)
+  module _ {c : Console} {output rest : List ℕ} {w : ℕ} (g : Going c₀ input output₀ c output rest w) where
+    pub going_made : Reached c₀ → Reached c
+    going_made m = rw g.state (made_after c₀ g.done m)
 
-  -- the console stands for all of the input, and what was written is what the text grew by
-  pub going_stands : {c : Console} {output : List ℕ} {i w : ℕ} → Going c₀ input output₀ c output i w
-      → Continued c₀ input output (record { console = c; taken = i; written = w })
-  going_stands {c} {output} {i} {w} g = record {
-    stands = λ u before s. rw g.state (stands_after c₀ u before (take i input) s).0;
-    text = λ u before s. rw (g.text, g.place, with_text_front output₀ (text_after c₀ (take i input))) (stands_after c₀ u before (take i input) s).1;
-  }
+    -- how much was taken
+    abbrev pub taken : ℕ
+    taken = length input - length rest
 
-  pub going_kept : {c : Console} {output : List ℕ} {i w : ℕ} → Going c₀ input output₀ c output i w
-      → FeedKept c₀ input output₀ output (record { console = c; taken = i; written = w })
-  going_kept {c} {output} {i} {w} g = record {
-    unit = λ n. rw g.state (unit_after_lem c₀ (take i input) n);
-    behind = rw (g.text, g.place) (with_text_behind output₀ (text_after c₀ (take i input)));
-    console = λ (none : i ≡ 0). rw none at g.state;
-    output = λ (none : i ≡ 0). rw none at g.text ∙ with_text_none output₀ 0;
-  }
+    size : taken ≡ length g.done
+    size = let all : length input ≡ length g.done + length rest = ap length g.cut ∙ length-append g.done rest in omega (arith, all)
 
-  -- ---- the end: all of the input is taken, or no room is left
-  stopped : {c : Console} {output : List ℕ} {i w : ℕ} → Going c₀ input output₀ c output i w → takes c (drop i input) (length output₀ - w) ≡ 0
-      → takes c₀ input (length output₀) ≡ i
-  stopped {c} {output} {i} {w} g e = g.left ∙ omega arith
+    front : take taken input ≡ g.done
+    front = ap (λ (n : ℕ). take n input) size ∙ ap (take (length g.done)) g.cut ∙ take-append_seam g.done rest
 
-  answered : {c : Console} {output : List ℕ} {i w : ℕ} → Going c₀ input output₀ c output i w → takes c₀ input (length output₀) ≡ i → Handed c₀ input output₀ c output i w
-  answered {c} {output} {i} {w} g e = (rw (e, g.state, g.place), rw e g.text)
+    -- the console stands for all of the input, and what was written is what the text grew by
+    pub going_stands : Continued c₀ input output (record { console = c; taken = taken; written = w })
+    going_stands = record {
+      stands = λ u before s. rw (front, g.state) (stands_after c₀ u before g.done s).0;
+      text = λ u before s. rw (front, g.text, g.place, with_text_front output₀ (text_after c₀ g.done)) (stands_after c₀ u before g.done s).1;
+    }
 
-  pub fed : {c : Console} {output : List ℕ} {i w : ℕ} → Going c₀ input output₀ c output i w → (ltb i (length input) && leb STATUS (length output - w)) ≡ false
-      → Handed c₀ input output₀ c output i w
-  fed {c} {output} {i} {w} g e =
-      let rest = takes c (drop i input) (length output₀ - w) in
-      let none : rest ≡ 0 =
-      ⊎_elim (λ (t : ltb i (length input) ≡ true). takes_full c (drop i input) (length output₀ - w) (leb-false STATUS (length output₀ - w) (rw (t, going_length g) at e)))
-      (λ (t : ltb i (length input) ≡ false). takes_end input c i (ltb-false i (length input) t) (length output₀ - w))
-      (either (ltb i (length input))) in
-      answered g (stopped g none)
+    pub going_kept : FeedKept c₀ input output₀ output (record { console = c; taken = taken; written = w })
+    going_kept = record {
+      unit = λ n. rw g.state (unit_after_lem c₀ g.done (rw front at n));
+      behind = rw (g.text, g.place) (with_text_behind output₀ (text_after c₀ g.done));
+      console = λ (none : taken ≡ 0). g.state ∙ ap (console_after c₀) (none_held g.done (sym size ∙ none));
+      output = λ (none : taken ≡ 0). g.text ∙ ap (λ (l : List ℕ). with_text output₀ 0 (text_after c₀ l)) (none_held g.done (sym size ∙ none)) ∙ with_text_none output₀ 0;
+    }
 
-  pub fed_progress : {c : Console} {output : List ℕ} {i w : ℕ} → Going c₀ input output₀ c output i w
-      → (ltb i (length input) && leb STATUS (length output - w)) ≡ false
-      → Progress input output (record { console = c; taken = i; written = w })
-  fed_progress {c} {output} {i} {w} g e =
-      let size = going_length g in
-      let all : i ≡ takes c₀ input (length output₀) = ap (λ (r : Fed). r.taken) (fed g e).0 in
-      record { taken = g.within; written = omega (arith, g.fits); some = λ h k. rw all (takes_some c₀ input (length output₀) h (omega arith)) }
+    -- ---- the end: all of the input is taken, or no room is left
+    module _ (e : (not (eqb (length rest) 0) && leb STATUS (length output - w)) ≡ false) where
+      stopped : takes c₀ input (length output₀) ≡ taken
+      stopped = g.left ∙ omega (arith, size, takes_end c rest (length output₀ - w) (rw (going_length g) at e))
+
+      -- what is handed back
+      pub fed : (record { console = c; taken = taken; written = w } ≡ fed_of c₀ input (length output₀)) × (output ≡ fed_buffer c₀ input output₀)
+      fed = (rw (stopped, front, g.state, g.place), rw (stopped, front) g.text)

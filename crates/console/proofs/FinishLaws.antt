@@ -1,10 +1,10 @@
 -- The end of the input: the unended line's answer and the status are what `transcript` has after the answers so far. Assumes nothing.
-use Prim.Native.Nat.{ℕ, suc, ◌+◌, ◌≤◌, ◌<◌}
+use Prim.Native.Nat.{ℕ, suc, ◌+◌, ◌≤◌}
 use mathlib.Core.Path.{◌≡◌, refl, sym, ap, ◌∙◌}
 use mathlib.Core.Bool.{Bool, true, false, cond}
 use mathlib.Core.List.{List, [], ◌∷◌, ◌++◌, append_assoc, append-nil}
 use native.Mathlib.Omega.{arith}
-use borrow.Author.Tests.{eq-eqb, ne_eqb, eqb-false, lt-ltb, le-ltb}
+use borrow.Author.Tests.{eq-eqb, ne_eqb, eqb-false, le-ltb}
 use lib.ListN.{length, take, length-append}
 use Rattle.food_line.specs.Fields.{line_length}
 use Rattle.unit.specs.Take.{taken_of}
@@ -90,11 +90,6 @@ module _ (c : Console) (output : List ℕ) where
   abbrev pub Finished : ℕ → List ℕ → Type 0
   Finished r exit =
       (r ≡ finished_of c (length output)) × (exit ≡ finished_buffer c output) × (r ≤ length exit) × Completes c output exit r × FinishKept output exit r
-
-  pub finished_short : length output < FINAL → Finished 0 output
-  finished_short h =
-      let t = lt-ltb (length output) FINAL h in
-      (rw t, rw t, omega arith, λ u input s l. absurd (omega arith), record { behind = refl; output = λ (none : ◌≡◌ {A = ℕ} 0 0). refl })
 
   pub last_room : (middle : List ℕ) (w : ℕ) → FINAL ≤ length output → w ≡ length (last_text c) → middle ≡ with_text output 0 (last_text c)
       → w + STATUS ≤ length middle

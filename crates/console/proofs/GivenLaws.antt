@@ -1,10 +1,8 @@
 -- An empty line is none to the unit. Assumes nothing.
-use Prim.Native.Nat.{ℕ}
 use mathlib.Core.Path.{refl, sym, ap}
 use mathlib.Core.List.{List, [], ◌∷◌}
 use Rattle.reply.specs.declared.event.Event.{Event}
 use Rattle.unit.specs.Take.{taken_of, new_of}
-use Rattle.unit.specs.declared.Unit as U
 use Rattle.unit.proofs.Claimed.{claim_holds}
 use Rattle.unit.proofs.Long.{refused_empty}
 use Rattle.console.specs.Lines.{lines_of, given}

@@ -1,5 +1,5 @@
 -- More bytes are held, as far as there is room. Assumes nothing.
-use Rattle.std.proofs.Common.{ℕ, ◌≡◌, ◌+◌, ◌-◌, ◌≤◌, List, ◌++◌, length, take, drop, min, replicate, sym, ap, ◌∙◌, arith}
+use Rattle.std.proofs.Common.{ℕ, ◌≡◌, ◌+◌, ◌-◌, ◌≤◌, List, ◌++◌, length, take, drop, min, sym, ap, ◌∙◌, arith}
 use Rattle.std.proofs.Math.Nat.{min-le_left, min-le_right}
 use Rattle.std.proofs.lemmas.List.{take_min, length-take-le, drop-drop, drop-replicate}
 use Rattle.std.proofs.lemmas.Slice.{take-put_mid, drop-put_mid}
@@ -26,16 +26,17 @@ module _ (held n : ℕ) (bytes more put : List ℕ) (f : IsFilled held bytes) (r
         ∙ sym (take-append-add (take held bytes) more (HELD - held))
         ∙ ap (λ (k : ℕ). take k (take held bytes ++ more)) whole
 
+    -- what stands behind it
+    behind : drop (held + n) (put_mid held (held + n - held) bytes put) ≡ drop n (drop held bytes)
+    behind =
+        drop-put_mid held (held + n - held) bytes put (held + n) (omega arith) (omega (arith, f.fits, f.size)) (omega (arith, size))
+        ∙ sym (drop-drop n held bytes)
+
     pub filled_more : IsFilled (held + n) (put_mid held (held + n - held) bytes put)
     filled_more =
         let left : HELD - held - n ≡ HELD - (held + n) = omega arith in
         record {
           fits = fits;
           size = same_len_mid held (held + n - held) bytes put same ∙ f.size;
-          rest =
-              drop-put_mid held (held + n - held) bytes put (held + n) (omega arith) (omega (arith, f.fits, f.size)) (omega (arith, size))
-              ∙ sym (drop-drop n held bytes)
-              ∙ ap (drop n) f.rest
-              ∙ drop-replicate n (HELD - held) 0
-              ∙ ap (λ (k : ℕ). replicate k 0) left;
+          rest = behind ∙ ap (drop n) f.rest ∙ rw left at (drop-replicate {X = ℕ} n (HELD - held) 0);
         }

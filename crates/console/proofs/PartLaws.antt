@@ -1,22 +1,21 @@
 -- A part of a line, bytes with no newline among them: where it ends, and what it does to a console. Assumes nothing.
 use Prim.Native.Nat.{ℕ, zero, suc, ◌+◌, ◌-◌, ◌≤◌, ◌<◌}
-use mathlib.Core.Path.{◌≡◌, refl, sym, ap, ap₂, ◌∙◌}
+use mathlib.Core.Path.{◌≡◌, refl, sym, ap, ◌∙◌}
 use mathlib.Core.Bool.{Bool, true, false, ◌||◌, or-false, or_assoc}
-use mathlib.Core.Logic.{⊎_elim}
 use mathlib.Core.List.{List, [], ◌∷◌, ◌++◌, append_assoc, append-nil}
 use native.Mathlib.Nat.{suc-add}
 use native.Mathlib.Numerals.{add-one}
 use native.Mathlib.Omega.{arith}
 use borrow.Author.Tests.{le-ltb, eqb-true}
-use lib.Dec.{eqb, ltb}
-use lib.ListN.{length, take, drop, get_or, set, length-drop, take-append-drop}
-use lib.Seq.{take-add, take_all, length-take-le}
+use lib.Dec.{eqb}
+use lib.ListN.{length, take, get_or}
+use lib.Seq.{take_all}
 use Rattle.std.specs.Prelude.{◌==◌, Option, Some, None}
 use Rattle.std.specs.Option.{unwrap_or}
 use Rattle.std.proofs.lemmas.Bool.{false_from_ne_true}
 use Rattle.memchr.specs.Find.{IsFirstByte, is_byte}
 use Rattle.laws.proofs.Bools.{or_neither}
-use Rattle.laws.proofs.Gathered.{joined, with_the_next, each}
+use Rattle.laws.proofs.Gathered.{with_the_next}
 use Rattle.console.specs.declared.Contents.{Contents as Console}
 use Rattle.text.specs.bounds.Room.{STATUS}
 use Rattle.text.specs.Text.{NEWLINE}
@@ -30,9 +29,6 @@ use Rattle.console.proofs.StandLaws.{step_other, take_fits, cut_again}
 
 abbrev is_newline : ℕ → Bool
 is_newline x = eqb x NEWLINE
-
-has_append : (xs ys : List ℕ) → has_newline (xs ++ ys) ≡ (has_newline xs || has_newline ys)
-has_append = joined ◌||◌ false (λ b. refl) or-false or_assoc is_newline has_newline refl (λ x l. refl)
 
 -- one is among the first i bytes, or is the next
 has_more : (l : List ℕ) (i : ℕ) → i < length l → (has_newline (take i l) || eqb (get_or l i 0) NEWLINE) ≡ has_newline (take (i + 1) l)
@@ -61,9 +57,6 @@ ends_at l (Some n) found = record {
 }
 
 -- ---- bytes one after the other
-
-pub part_length : (l : List ℕ) (i n : ℕ) → i + n ≤ length l → length (take n (drop i l)) ≡ n
-part_length l i n h = length-take-le n (drop i l) (simp length-drop (omega arith))
 
 pub console_append : (c : Console) (xs ys : List ℕ) → console_after c (xs ++ ys) ≡ console_after (console_after c xs) ys
 console_append c [] ys = refl

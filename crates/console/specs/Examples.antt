@@ -7,6 +7,7 @@ use Rattle.food_line.specs.Fields.{reading_of}
 use Rattle.food_line.specs.Amount.{amount_of}
 use Rattle.percent.specs.Percent.{accepted, hundredths_of}
 use Rattle.field.specs.Refused.{kind_row, date_row, product_row, mean_row, reading_row}
+use Rattle.field.specs.Class.{class_of}
 use Rattle.difference.specs.Contribution.{increment_of, variable_of, measure_of}
 use Rattle.difference.specs.Difference.{fat, salt, coefficient_for}
 use Rattle.difference.specs.Largest.{root_from}
@@ -60,5 +61,5 @@ counted : (accepts (new_console new_unit) (NEWLINE ∷ []) ≡ false) × (accept
     (digits_of
     (0x02 ∷ 0x07 ∷ 0xdc ∷ 0x03 ∷ 0x0a ∷ 0x02 ∷ 0x17 ∷ 0x70 ∷ 0x07 ∷ 0x08 ∷ 0x05 ∷ 0xdc ∷ 0x00 ∷ 0xc8 ∷ 0x00 ∷ 0x42 ∷ 0x70 ∷ 0x00 ∷ 0x00 ∷ 0x00 ∷ 0x41 ∷ 0x90 ∷ 0x00 ∷ 0x00 ∷ 0x00 ∷ 0x41 ∷ 0x70 ∷ 0x00 ∷ 0x00 ∷ 0x00 ∷ 0x40 ∷ 0x00 ∷ 0x00 ∷ 0x00 ∷ [])
     ++ NEWLINE ∷ []) ≡ true)
-unfolding is_digit digit_value digit_of are_digits bytes_of digits_of reading_of accepted hundredths_of amount_of first_row kind_row date_row product_row mean_row reading_row increment_of variable_of measure_of fat salt coefficient_for root_from passes_of taken_in of_bits stepped_of
+unfolding is_digit digit_value digit_of are_digits bytes_of digits_of reading_of accepted hundredths_of amount_of first_row kind_row date_row product_row mean_row reading_row increment_of variable_of measure_of class_of fat salt coefficient_for root_from passes_of taken_in of_bits stepped_of
 counted = (refl, refl, refl)

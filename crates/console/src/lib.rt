@@ -89,14 +89,14 @@ pub fn feed(start: Console, input: &[u8], output: &mut [u8]) -> Fed
 {
     let mut unit = start.contents.unit;
     let mut part = start.contents.part;
-    let mut taken = 0;
+    let mut rest = input;
     let mut written = 0;
-    while (taken < input.len()) & (STATUS <= output.len() - written) {
-        let end = line_end(&input[taken..]);
-        part.hold(&input[taken..taken + end]);
-        taken += end;
-        if taken < input.len() {
-            taken += 1;
+    while !rest.is_empty() & (STATUS <= output.len() - written) {
+        let (before, after) = rest.split_at(line_end(rest));
+        part.hold(before);
+        rest = after;
+        if let Some((_, next)) = after.split_first() {
+            rest = next;
             let line = part.line();
             if line.is_empty() {
                 // A copy: the loop is quicker where only `take` is handed the unit itself.
@@ -116,7 +116,7 @@ pub fn feed(start: Console, input: &[u8], output: &mut [u8]) -> Fed
     };
     Fed {
         console,
-        taken,
+        taken: input.len() - rest.len(),
         written,
     }
 }
@@ -140,7 +140,8 @@ fn end_line(console: Console, output: &mut [u8]) -> Fed
 }
 
 // Ends the last line and writes the status. To a buffer that could be too short nothing is written, and
-// 0 is handed back, as no text is empty.
+// 0 is handed back, as no text is empty: `&output[..written]` is what was written in either case, which of an
+// `Option` takes a `match`.
 // `whole`, `bytes`: what is handed back and every byte of the output are the definitions'.
 // `transcript`: what `feed` and this wrote is the transcript of the whole input. `kept`: the rest of
 // the output is as it was.

@@ -9,7 +9,8 @@ use std::marker::Model;
 // refused for its length, however long it grows.
 pub const HELD: usize = DIGITS + 1;
 
-// The first `held` bytes; the others are 0.
+// The first `held` bytes; the others are 0. An array with its length, as memory is fixed and a console is
+// `Copy`: of one with an `ArrayVec<u8, HELD>` in it, "`Copy` cannot be implemented for this type".
 #[derive(Clone, Copy)]
 pub struct Part {
     held: usize,

@@ -7,7 +7,7 @@ use Rattle.digits.specs.Signed.{signed_by}
 use Rattle.field.specs.Refused.{date_row}
 use Rattle.format.specs.Write.{buffer_by}
 use Rattle.field.specs.Residue.{residue_kind_row, no_compound, compound_row, outside, log_row, result_row}
-use Rattle.residue_line.specs.Fields.{result_of, tag_of, log_of}
+use Rattle.residue_line.specs.Fields.{result_of, tagged_of}
 use Rattle.residue_line.specs.Read.{read_of}
 use Rattle.residue_line.specs.Write.{written_of, buffer_after}
 use Rattle.rows.specs.Rows.{first_row}
@@ -23,7 +23,7 @@ pub claim_of : (ls : List (List ℕ)) → ClaimOf category ls (shown ls)
 claim_of ls = claim_holds category ls (replay category ls) refl
 
 pub residues : Residues
-unfolding is_digit digit_value digit_of are_digits bytes_of digits_of signed_by result_of tag_of log_of read_of buffer_by written_of buffer_after first_row residue_kind_row date_row no_compound compound_row outside log_row result_row next_value next_first increment_of variable_of measure_of status_by taken_in
+unfolding is_digit digit_value digit_of are_digits bytes_of digits_of signed_by result_of tagged_of read_of buffer_by written_of buffer_after first_row residue_kind_row date_row no_compound compound_row outside log_row result_row next_value next_first increment_of variable_of measure_of status_by taken_in
 residues = record {
   halves = (refl, refl, refl);
   values = (refl, refl, refl);

@@ -6,7 +6,7 @@ use Rattle.digits.specs.Digits.{is_digit, digit_value, digit_of, are_digits, byt
 use Rattle.digits.specs.Signed.{signed_by}
 use Rattle.field.specs.Refused.{date_row}
 use Rattle.field.specs.Residue.{residue_kind_row, no_compound, compound_row, outside, log_row, result_row}
-use Rattle.residue_line.specs.Fields.{result_of, tag_of, log_of}
+use Rattle.residue_line.specs.Fields.{result_of, tagged_of}
 use Rattle.rows.specs.Rows.{first_row}
 use Rattle.difference.specs.Contribution.{increment_of, variable_of, measure_of}
 use Rattle.unit.specs.Status.{status_by}
@@ -15,7 +15,7 @@ use Rattle.examples.proofs.Residue.{claim_of}
 use Rattle.examples.specs.Windows.{Windows, apart, by_both, by_eight, by_two, three_apart}
 
 pub windows : Windows
-unfolding is_digit digit_value digit_of are_digits bytes_of digits_of signed_by result_of tag_of log_of first_row residue_kind_row date_row no_compound compound_row outside log_row result_row next_value next_first increment_of variable_of measure_of status_by taken_in
+unfolding is_digit digit_value digit_of are_digits bytes_of digits_of signed_by result_of tagged_of first_row residue_kind_row date_row no_compound compound_row outside log_row result_row next_value next_first increment_of variable_of measure_of status_by taken_in
 windows = record {
   first_events = refl;
   two_events = refl;

@@ -5,6 +5,7 @@ use Rattle.std.specs.Float.Ieee.{of_bits, to_bits}
 use Rattle.grounds.specs.Chart.{next_value, next_first}
 use Rattle.digits.specs.Digits.{is_digit, digit_value, digit_of, are_digits, bytes_of, digits_of}
 use Rattle.field.specs.Refused.{kind_row, date_row, product_row, mean_row, reading_row}
+use Rattle.field.specs.Class.{class_of}
 use Rattle.food_line.specs.Fields.{reading_of, tagged_of}
 use Rattle.food_line.specs.Amount.{amount_of}
 use Rattle.percent.specs.Percent.{accepted, hundredths_of}
@@ -28,7 +29,7 @@ claim_of : (ls : List (List ℕ)) → ClaimOf Food ls (status_of (replay Food ls
 claim_of ls = claim_holds Food ls (replay Food ls) refl
 
 pub witness : Witness
-unfolding is_digit digit_value digit_of are_digits bytes_of digits_of reading_of tagged_of to_bits buffer_by written_of buffer_after accepted hundredths_of amount_of read_of first_row kind_row date_row product_row mean_row reading_row next_value next_first increment_of variable_of measure_of fat salt coefficient_for root_from status_by passes_of taken_in of_bits
+unfolding is_digit digit_value digit_of are_digits bytes_of digits_of reading_of tagged_of to_bits buffer_by written_of buffer_after accepted hundredths_of amount_of read_of first_row kind_row date_row product_row mean_row reading_row next_value next_first increment_of variable_of measure_of class_of fat salt coefficient_for root_from status_by passes_of taken_in of_bits
 witness = record {
   line_is = refl;
   line_refused = refl;

@@ -44,8 +44,7 @@ counted_line count year month days of tag result = digits_of (bytes_in (record {
   days = days;
   compound = of;
   comparison = neg_ℤ (pos 500);
-  tag = tag;
-  result = result;
+  result = record { tag = tag; number = result };
   count = count;
 }))
 

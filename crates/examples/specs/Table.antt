@@ -27,10 +27,10 @@ pub record Table : Type 0 where
   -- 3e000000 is 13 hundredths
   pub A : hundredths_of (of_bits binary32 0x3e000000) ≡ 13
   -- 42c80000 is 10000, 42c80001 refused
-  pub B : (reading_row (record { tag = 0; bits = 0x42c80000 }) ≡ false) × (hundredths_of (of_bits binary32 0x42c80000) ≡ 10000)
-      × (accepted (of_bits binary32 0x42c80001) ≡ false) × (reading_row (record { tag = 0; bits = 0x42c80001 }) ≡ true)
+  pub B : (reading_row (record { tag = 0; number = 0x42c80000 }) ≡ false) × (hundredths_of (of_bits binary32 0x42c80000) ≡ 10000)
+      × (accepted (of_bits binary32 0x42c80001) ≡ false) × (reading_row (record { tag = 0; number = 0x42c80001 }) ≡ true)
   -- 80000000 refused
-  pub C : (accepted (of_bits binary32 0x80000000) ≡ false) × (reading_row (record { tag = 0; bits = 0x80000000 }) ≡ true)
+  pub C : (accepted (of_bits binary32 0x80000000) ≡ false) × (reading_row (record { tag = 0; number = 0x80000000 }) ≡ true)
   -- q for M = 200 is 11892
   pub D : root_of 200 ≡ 11892
   -- p for T = 10 is 10000, for T = 1000 it is 199526

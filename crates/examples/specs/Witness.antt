@@ -25,25 +25,25 @@ use Rattle.reply.specs.declared.event.Event.TheVariants.{Refused, UnderWay}
 
 -- ---- the lines
 
-abbrev pub percent : ℕ → Tagged
-percent bits = record { tag = PERCENT; bits = bits }
+abbrev pub percent : ℕ → Tagged ℕ
+percent bits = record { tag = PERCENT; number = bits }
 
 -- readings of moisture: 60.00, which is the mean, then 59.05 and 60.77 percent, and a lost one
-abbrev pub at_mean : Tagged
+abbrev pub at_mean : Tagged ℕ
 at_mean = percent 0x42700000
 
-abbrev pub below : Tagged
+abbrev pub below : Tagged ℕ
 below = percent 0x426c3333
 
-abbrev pub above : Tagged
+abbrev pub above : Tagged ℕ
 above = percent 0x4273147b
 
-abbrev pub lost : Tagged
-lost = record { tag = LOST; bits = 0 }
+abbrev pub lost : Tagged ℕ
+lost = record { tag = LOST; number = 0 }
 
 -- A line of class 2 by its kind, year, month, days and reading of moisture. The means are 60.00, 18.00, 15.00 and 2.00 percent, and so are the
 -- other readings.
-abbrev pub line_with : ℕ → ℕ → ℕ → ℕ → Tagged → List ℕ
+abbrev pub line_with : ℕ → ℕ → ℕ → ℕ → Tagged ℕ → List ℕ
 line_with kind year month days moisture = digits_of (bytes_in (record {
   kind = kind;
   year = year;
@@ -65,7 +65,7 @@ abbrev pub study_set : List (List ℕ)
 study_set = replicate 36 study
 
 -- samples of 2013, one in each of the months
-abbrev pub samples : List ℕ → Tagged → List (List ℕ)
+abbrev pub samples : List ℕ → Tagged ℕ → List (List ℕ)
 samples months moisture = map (λ (m : ℕ). line_with MAINTENANCE 2013 m 10 moisture) months
 
 -- ---- the lists

@@ -5,23 +5,23 @@
 
 mod answer;
 
-ghost use Rattle.std.specs.Prelude.{◌≡◌, ◌≤◌, eqb, take};
-ghost use Rattle.lines.specs.Answer.{ANSWER, NEWLINE as LINE_END, answer_of};
+ghost use Rattle.std.specs.Prelude.{◌≡◌, eqb};
+ghost use Rattle.lines.specs.Answer.{NEWLINE as LINE_END, answer_of};
 
 use answer::{ANSWER, NEWLINE, put_line};
 use difference::category::Category;
 use food_line::food::FoodLine;
 use residue_line::residue::ResidueLine;
 
-// The descriptor of standard input. Three programs' crates read it so: a function for the two lines would
-// want a crate of its own.
+// The descriptor of standard input, which is read into a buffer and counted: std's reader wants an `Input`,
+// and `run` asks its callers for a `Print` alone. Two programs read so too, in two lines: a function would
+// be lent the buffer, and be called in two lines as well.
 const STDIN: i32 = 0;
 
-// What is printed for a line, put at the start of `out`, and how many bytes that are.
+// What is printed for a line, put into a buffer.
 #[tactic(auto, unfolding(food_line::specs::Read::read_of, residue_line::specs::Read::read_of))]
-fn put_answer(category: Category, line: &[u8], out: &mut [u8; ANSWER]) -> usize
-    ensures room { result ≤ ANSWER }
-    ensures put { take result out.new ≡ answer_of category line.now }
+fn put_answer<'a>(category: Category, line: &[u8], out: &'a mut [u8; ANSWER]) -> &'a [u8]
+    ensures { result.now ≡ answer_of category line.now }
 {
     match category {
         Category::Food => put_line(FoodLine, line, out),
@@ -30,9 +30,7 @@ fn put_answer(category: Category, line: &[u8], out: &mut [u8; ANSWER]) -> usize
 }
 
 fn print_answer(rt: &impl Print, category: Category, line: &[u8]) -> std::io::Result<()> {
-    let mut out = [0u8; ANSWER];
-    let n = put_answer(category, line, &mut out);
-    rt.write_all(&out[..n])
+    rt.write_all(put_answer(category, line, &mut [0u8; ANSWER]))
 }
 
 // Whether a byte ends a line.

@@ -23,19 +23,19 @@ fn answer(
     requires { FINAL ≤ length output.old }
     ensures { length output.new ≡ length output.old }
 {
-    let mut at = 0;
-    while at < piece.len() {
-        let fed = feed(console, &piece[at..], output);
+    let mut rest = piece;
+    while !rest.is_empty() {
+        let fed = feed(console, rest, output);
         console = fed.console;
-        at += fed.taken;
-        let written = fed.written;
-        writer.write_all(&output[..written])?;
+        rest = &rest[fed.taken..];
+        writer.write_all(&output[..fed.written])?;
     }
     Ok(console)
 }
 
 // Answers the whole input and then gives the status, if no read or write fails. A proved loop has to
-// end, and nothing says that the input does: the loop has more turns than any run uses up.
+// end, and nothing says that the input does: the loop has more turns than any run uses up. Five
+// parameters: a struct of the last four would be made for this one call.
 fn converse(
     mut console: Console,
     input: &mut [u8],

@@ -1,18 +1,17 @@
 -- A text put into a buffer, and more put behind it. Assumes nothing.
-use Prim.Native.Nat.{ℕ, suc, ◌+◌, ◌*◌, ◌/◌, ◌%◌, ◌-◌, ◌<◌, ◌≤◌}
+use Prim.Native.Nat.{ℕ, suc, ◌+◌, ◌*◌, ◌-◌, ◌<◌, ◌≤◌}
 use mathlib.Core.Path.{◌≡◌, refl, sym, ap, ◌∙◌}
 use mathlib.Core.List.{List, [], ◌∷◌, ◌++◌, append_assoc, append-nil}
 use native.Mathlib.Omega.{arith}
 use lib.ListN.{length, get_or, set, take, drop, length-append, length-drop, take-append-drop}
-use lib.Seq.{take-suc, drop-cons, append_snoc, set_at, take_at, drop_at, drop-append-add, length-take-le, drop-drop, take_all}
+use lib.Seq.{drop-cons, append_snoc, set_at, take_at, drop_at, drop-append-add, length-take-le, drop-drop, take_all}
 use native.Mathlib.Nat.{zero-add}
 use Rattle.std.proofs.lemmas.List.{drop_all}
-use native.Mathlib.Numerals.{add-one}
 use borrow.Rule.Slice.PartMut.{put_mid}
 use Rattle.digits.specs.Digits.{digits_of}
 use borrow.Author.Tests.{le-leb}
 use Rattle.digits.specs.Slices.{has_room, digits_after}
-use Rattle.digits.proofs.ByteLaws.{length_digits_of, digits_of_append}
+use Rattle.digits.proofs.ByteLaws.{length_digits_of}
 use Rattle.text.specs.Buffer.{with_text, SameFrom}
 use Rattle.text.specs.Text.{NEWLINE, line_text}
 
@@ -95,9 +94,6 @@ pub with_text_behind : (l t : List ℕ) → SameFrom (length t) l (with_text l 0
 with_text_behind l t = drop_at t (drop (0 + length t) l) (length t) refl ∙ rw zero-add
 
 -- ---- the digits of bytes, put one after the other from the start
-
-digits_length : (bytes : List ℕ) (i : ℕ) → i ≤ length bytes → length (digits_of (take i bytes)) ≡ 2 * i
-digits_length bytes i h = length_digits_of (take i bytes) ∙ ap (λ (n : ℕ). 2 * n) (length-take-le i bytes h)
 
 -- where there is room, the digits and then a newline are the line
 pub line_put : (l bytes : List ℕ) → 2 * length bytes < length l → set (digits_after bytes l) (2 * length bytes) NEWLINE ≡ with_text l 0 (line_text bytes)

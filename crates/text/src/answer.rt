@@ -30,8 +30,8 @@ fn bytes_of(event: Event) -> [u8; 2]
 }
 
 // Puts an event into the buffer, from `at` on, and gives the place after it. Where there
-// is no room for it nothing changes, and `at` is handed back. Buffer and place are two, since all of the
-// buffer is promised.
+// is no room for it nothing changes, and `at` is handed back: the place after what was put in either case, which
+// of an `Option` takes an `unwrap_or`. Buffer and place are two, since all of the buffer is promised.
 pub fn put_answer(event: Event, buffer: &mut [u8], at: usize) -> usize
     ensures place { result ≡ put_place ANSWER_ROOM buffer.old at (answer_text event) }
     ensures text { buffer.new ≡ put_text ANSWER_ROOM buffer.old at (answer_text event) }

@@ -34,6 +34,7 @@ fn stage_bytes(report: Report) -> [u8; 6]
     ]
 }
 
+// A chart's number is a byte of its line, and no enum: it goes from the place in the list to the line.
 fn run_bytes(chart: u8, run: ChartReport) -> [u8; 9]
     ensures { result ≡ run_bytes chart run }
 {
