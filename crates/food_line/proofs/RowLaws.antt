@@ -9,7 +9,7 @@ use lib.Ieee.{binary32, of_bits}
 use Rattle.laws.proofs.Bools.{or_neither}
 use Rattle.std.specs.Prelude.{Ok}
 use Rattle.rows.specs.Rows.{first_row}
-use Rattle.rows.proofs.RowsLaws.{passed}
+use Rattle.rows.proofs.RowsLaws.{none_fits}
 use Rattle.field.specs.Refused.{PERCENT, LOST, kind_row, date_row, product_row, mean_row, reading_row}
 use Rattle.percent.specs.Percent.{accepted}
 use Rattle.food_line.specs.FieldRows.{field_rows}
@@ -28,17 +28,12 @@ pub record Clean (f : Fields) : Type 0 where
   pub salt : reading_row f.salt ≡ false
 
 pub clean : (f : Fields) → first_row (field_rows f) ≡ Ok tt → Clean f
-unfolding first_row
 clean f e =
-    let k = passed _ _ _ e in
-    let d = passed _ _ _ k.1 in
-    let p = passed _ _ _ d.1 in
-    let m = passed _ _ _ p.1 in
-    let r = passed _ _ _ m.1 in
-    let s = or_neither (reading_row f.moisture || reading_row f.protein || reading_row f.fat) (reading_row f.salt) r.0 in
+    let n = none_fits (field_rows f) e in
+    let s = or_neither (reading_row f.moisture || reading_row f.protein || reading_row f.fat) (reading_row f.salt) n.1.1.1.1.0 in
     let t = or_neither (reading_row f.moisture || reading_row f.protein) (reading_row f.fat) s.0 in
     let q = or_neither (reading_row f.moisture) (reading_row f.protein) t.0 in
-    record { kind = k.0; date = d.0; product = p.0; mean = m.0; moisture = q.0; protein = q.1; fat = t.1; salt = s.1 }
+    record { kind = n.0; date = n.1.0; product = n.1.1.0; mean = n.1.1.1.0; moisture = q.0; protein = q.1; fat = t.1; salt = s.1 }
 
 -- ---- a reading that row 7 does not fit
 

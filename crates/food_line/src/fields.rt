@@ -15,6 +15,8 @@ use percent::bits_of;
 // How many bytes a line's digits write.
 pub const BYTES: usize = 34;
 
+// One type for these and the record, with four `Tagged<u32>` or four `Reading`, would save this list alone: no
+// struct update changes a type, so either would be written out from the other as it is.
 #[derive(Clone, Copy)]
 pub struct Fields {
     pub kind: u8,

@@ -5,7 +5,7 @@ use mathlib.Core.Bool.{false}
 use lib.IntN.{nat_abs}
 use Rattle.std.specs.Prelude.{Ok}
 use Rattle.rows.specs.Rows.{first_row}
-use Rattle.rows.proofs.RowsLaws.{passed}
+use Rattle.rows.proofs.RowsLaws.{none_fits}
 use Rattle.field.specs.Refused.{date_row}
 use Rattle.field.specs.Residue.{residue_kind_row, compound_row, log_row, result_row}
 use Rattle.field.proofs.ResidueLaws.{FARTHEST, logs_within}
@@ -21,14 +21,7 @@ pub record Clean (given : ℕ) (f : Fields) : Type 0 where
   pub result : result_row f.result f.count ≡ false
 
 pub clean : (given : ℕ) (f : Fields) → first_row (field_rows given f) ≡ Ok tt → Clean given f
-unfolding first_row
-clean given f e =
-    let k = passed _ _ _ e in
-    let d = passed _ _ _ k.1 in
-    let c = passed _ _ _ d.1 in
-    let l = passed _ _ _ c.1 in
-    let r = passed _ _ _ l.1 in
-    record { kind = k.0; date = d.0; compound = c.0; log = l.0; result = r.0 }
+clean given f e = let n = none_fits (field_rows given f) e in record { kind = n.0; date = n.1.0; compound = n.1.1.0; log = n.1.1.1.0; result = n.1.1.1.1.0 }
 
 -- both logs are within their bounds
 pub logs : (given : ℕ) (f : Fields) → Clean given f → (nat_abs f.comparison ≤ FARTHEST) × (nat_abs f.result.number ≤ FARTHEST)

@@ -9,6 +9,8 @@ use field::{LOST, Tagged};
 // How many bytes a line's digits write.
 pub const BYTES: usize = 12;
 
+// One type for these and the record, `Sample<Tagged<i16>>` and `Sample<Option<i16>>`, would save this list alone:
+// no struct update changes a type, so either would be written out from the other as it is.
 #[derive(Clone, Copy)]
 pub struct Fields {
     pub kind: u8,
@@ -21,7 +23,7 @@ pub struct Fields {
     pub count: u8,
 }
 
-// A result by its tag. By a function, as the other way below.
+// A result by its tag. No `From`, for the reason that stands at the other way, below.
 #[tactic(auto, unfolding(crate::specs::Fields::result_of))]
 pub fn result_of(t: Tagged<i16>) -> Option<i16>
     ensures { result ≡ result_of t }

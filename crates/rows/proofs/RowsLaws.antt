@@ -1,6 +1,6 @@
 -- The first row that fits is given, and only then; and the first of two tables, one after the other. Assumes nothing.
-use Prim.Native.Nat.{ℕ, zero, suc}
-use mathlib.Core.Path.{◌≡◌, refl, sym, ap, ap₂, subst}
+use Prim.Native.Nat.{ℕ}
+use mathlib.Core.Path.{◌≡◌, refl, sym, ap, subst}
 use mathlib.Core.Bool.{Bool, true, false, cond, not, ◌&&◌, ◌||◌, or-true}
 use mathlib.Core.List.{List, [], ◌∷◌, ◌++◌}
 use borrow.Author.Tests.{eq-eqb, eqb-false, ne_eqb, not-true}
@@ -74,6 +74,16 @@ first_given (r ∷ rows) d = let t = other r rows d in go t.0 (first_given rows 
 pub passed : (n : Refusal) (b : Bool) (rest : Result ⊤ Refusal) → cond b (Err n) rest ≡ Ok tt → (b ≡ false) × (rest ≡ Ok tt)
 passed n true rest e = absurd (ok_is_no_err tt n (sym e))
 passed n false rest e = (refl, e)
+
+-- where none is given, no row fits
+abbrev pub NoneFits : List Row → Type 0
+NoneFits [] = Unit {0}
+NoneFits (r ∷ rows) = (r.fits ≡ false) × NoneFits rows
+
+pub none_fits : (rows : List Row) → first_row rows ≡ Ok tt → NoneFits rows
+unfolding first_row
+none_fits [] e = tt
+none_fits (r ∷ rows) e = let p = passed r.refusal r.fits (first_row rows) e in (p.0, none_fits rows p.1)
 
 -- the refusal that is given is a row's
 pub first_has : (rows : List Row) (n : Refusal) → first_row rows ≡ Err n → has_number (number_of n) rows ≡ true

@@ -2,8 +2,8 @@
 ghost use Rattle.std.specs.Prelude.{◌≡◌};
 ghost use Rattle.seen.specs.Date.{month_number, is_late};
 
-// The month number: 12 × year + month. Here and in row 4 year and month go together: `month_number(r.date)`
-// against `month_number(r.year, r.month)`.
+// The month number: 12 × year + month. A type of the two, for here and row 4, is no plainer:
+// `month_number(r.date)` against `month_number(r.year, r.month)`.
 pub fn month_number(year: u16, month: u8) -> u32
     ensures { result ≡ month_number year month }
 {

@@ -57,8 +57,8 @@ fn converse(
 }
 
 // Answers the lines of standard input on standard output, by a unit, and then gives the status. It
-// lends nothing and hands back the error, if a read or a write failed. No contract can speak of what is
-// read and written: that each piece is fed and what is fed is written, before more is read, is read off
+// lends nothing and hands back the error, if a read or a write failed. No contract can speak of what the
+// host reads and writes: that each piece is fed and what is fed is written, before more is read, is read off
 // the code above.
 pub fn run(rt: &(impl Input + Print), unit: Unit) -> io::Result<()> {
     let mut input = [0u8; BUFFER];

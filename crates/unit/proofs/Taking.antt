@@ -10,7 +10,7 @@ use Rattle.laws.proofs.Cond.{cases}
 use Rattle.std.specs.Prelude.{Result, Ok, Err, ⊤}
 use Rattle.rows.specs.Rows.{first_row}
 use Rattle.rows.specs.declared.refusal.Refusal.{Refusal}
-use Rattle.rows.proofs.RowsLaws.{passed}
+use Rattle.rows.proofs.RowsLaws.{none_fits}
 use Rattle.unit.specs.Stretch.{FULL, earlier}
 use Rattle.unit.specs.Take.{closed_row, stage_row, backdated_row, gap_row, full_row, unit_rows, refused_of, missed_of, sample_of, study_of, accepted_by, taken_by_row, taken_seen}
 use Rattle.unit.specs.declared.Contents as U
@@ -47,14 +47,7 @@ pub record Open (u : U.Contents) (x : Seen) : Type 0 where
   pub full : full_row u x ≡ false
 
 pub is_open : (u : U.Contents) (x : Seen) → first_row (unit_rows u x) ≡ Ok tt → Open u x
-unfolding first_row
-is_open u x e =
-    let a = passed _ _ _ e in
-    let b = passed _ _ _ a.1 in
-    let c = passed _ _ _ b.1 in
-    let d = passed _ _ _ c.1 in
-    let f = passed _ _ _ d.1 in
-    record { closed = a.0; stage = b.0; backdated = c.0; gap = d.0; full = f.0 }
+is_open u x e = let n = none_fits (unit_rows u x) e in record { closed = n.0; stage = n.1.0; backdated = n.1.1.0; gap = n.1.1.1.0; full = n.1.1.1.1.0 }
 
 -- a sample finds room in its stretch
 pub room : (u : U.Contents) (x : Seen) → Open u x → x.study ≡ false → x.missed ≡ false → earlier u.stretch x.year < FULL

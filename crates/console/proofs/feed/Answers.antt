@@ -57,35 +57,33 @@ module _ {c₀ : Console} {input output₀ output rest part next old new : List 
         let place : end + 0 ≡ end = omega arith in
         sym (ap (λ (l : List ℕ). get_or l 0 0) there) ∙ get_or-drop end rest 0 0 ∙ rw place (b.there more)
 
+    -- what a turn that ends a line goes by
+    ended : (x : ℕ) (after : List ℕ) → next ≡ x ∷ after → Going c₀ input output₀ (record { unit = u; part = new }) output next w × (STATUS ≤ length output₀ - w) × (x ≡ NEWLINE)
+    ended x after e = (more, room, newline x after e)
+
 pub loop-output-init : goal.loop-output-init
 loop-output-init c = (rw c.start.view_is at c.start.invariant, rw (← c.start.view_is) going_start)
 
 pub loop-output-preserved-then-is_empty : goal.loop-output-preserved-then-is_empty
 loop-output-preserved-then-is_empty c =
     let i = c.loop-output.invariant in
-    let t = rw c.is_empty.ensures at c.loop-output-test.true in
-    let b = c.line_end.ensures in
-    let cut = c.split_at.ensures in
-    let k = c.hold.ensures in
     let found = c.in-Some.ensures.cases.0 in
+    let z = ended i.0 i.1 (rw c.is_empty.ensures at c.loop-output-test.true) c.line_end.ensures c.split_at.ensures.front c.split_at.ensures.back c.hold.ensures _ _ found in
     let put = c.put_status-written.ensures in (
       i.0,
-      going_empty (more i.0 i.1 t b cut.front cut.back k) (room i.0 i.1 t b cut.front cut.back k) _ _ _ _ _ found (newline i.0 i.1 t b cut.front cut.back k _ _ found)
+      going_empty z.0 z.1 _ _ _ _ _ found z.2
           (ap length (sym c.line-line.ensures) ∙ eqb-true _ 0 (sym c.is_empty-in-Some.ensures ∙ c.if-is_empty.true)) c.status.ensures.whole put.place put.text,
     )
 
 pub loop-output-preserved-else-is_empty : goal.loop-output-preserved-else-is_empty
 loop-output-preserved-else-is_empty c =
     let i = c.loop-output.invariant in
-    let t = rw c.is_empty.ensures at c.loop-output-test.true in
-    let b = c.line_end.ensures in
-    let cut = c.split_at.ensures in
-    let k = c.hold.ensures in
     let found = c.in-Some.ensures.cases.0 in
+    let z = ended i.0 i.1 (rw c.is_empty.ensures at c.loop-output-test.true) c.line_end.ensures c.split_at.ensures.front c.split_at.ensures.back c.hold.ensures _ _ found in
     let put = c.put_answer-written.ensures in
     let whole = rw c.line-line.ensures at c.take-answer.ensures.whole in (
       i.0,
-      going_given (more i.0 i.1 t b cut.front cut.back k) (room i.0 i.1 t b cut.front cut.back k) _ _ c.take-answer.result _ _ _ found (newline i.0 i.1 t b cut.front cut.back k _ _ found)
+      going_given z.0 z.1 _ _ c.take-answer.result _ _ _ found z.2
           (λ e. eqb-false _ 0 (sym c.is_empty-in-Some.ensures ∙ c.if-is_empty.false) (ap length c.line-line.ensures ∙ e)) whole c.new-part.ensures put.place put.text,
     )
 
