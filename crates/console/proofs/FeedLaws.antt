@@ -17,7 +17,7 @@ use Rattle.console.specs.State.{stepped_of, step_text, console_after, text_after
 use Rattle.console.specs.Stands.{Reached}
 use Rattle.console.specs.Feed.{takes, fed_of, fed_buffer, Continued, FeedKept}
 use Rattle.text.specs.Text.{NEWLINE, answer_text, status_text}
-use Rattle.reply.specs.declared.report.Report.{Report}
+use Rattle.reply.specs.Report.{Report}
 use Rattle.unit.specs.Take.{taken_of}
 use Rattle.unit.specs.Status.{status_of}
 use Rattle.unit.specs.Taken.{Taken}

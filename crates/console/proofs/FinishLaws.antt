@@ -11,7 +11,7 @@ use Rattle.unit.specs.Take.{taken_of}
 use Rattle.unit.specs.Status.{status_of}
 use Rattle.unit.specs.Taken.{Taken}
 use Rattle.unit.specs.declared.Unit as U
-use Rattle.reply.specs.declared.report.Report.{Report}
+use Rattle.reply.specs.Report.{Report}
 use Rattle.console.specs.declared.Contents.{Contents as Console}
 use Rattle.text.specs.Text.{NEWLINE, answer_text, status_text}
 use Rattle.console.specs.Lines.{ended, rest, last_line, lines_of}

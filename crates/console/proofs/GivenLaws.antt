@@ -1,7 +1,7 @@
 -- An empty line is none to the unit. Assumes nothing.
 use mathlib.Core.Path.{refl, sym, ap}
 use mathlib.Core.List.{List, [], ◌∷◌}
-use Rattle.reply.specs.declared.event.Event.{Event}
+use Rattle.reply.specs.Event.{Event}
 use Rattle.unit.specs.Take.{taken_of, new_of}
 use Rattle.unit.proofs.Claimed.{claim_holds}
 use Rattle.unit.proofs.Long.{refused_empty}

@@ -1,8 +1,8 @@
 -- What the program answers to a line of its input. Document 01, "The program": an event byte and a number byte. Document 02, request Two: an empty line
 -- prints the status lines there and changes nothing.
 use Rattle.std.specs.Prelude.{ℕ, Bool, false, List, [], ◌∷◌}
-use Rattle.reply.specs.declared.event.Event.{Event}
-use Rattle.reply.specs.declared.report.Report.{Report}
+use Rattle.reply.specs.Event.{Event}
+use Rattle.reply.specs.Report.{Report}
 use Rattle.unit.specs.Claim.{is_accepted}
 use Rattle.unit.specs.Take.{taken_of}
 use Rattle.unit.specs.Status.{status_of}

@@ -2,7 +2,7 @@
 -- and `claim_there` of proofs/GivenLaws and `shown_there` of proofs/PieceLaws.
 use Rattle.std.specs.Prelude.{ℕ, ◌≡◌, List, [], ◌∷◌, ◌++◌, map}
 use Rattle.difference.specs.declared.category.Category.{Category}
-use Rattle.reply.specs.declared.event.Event.{Event}
+use Rattle.reply.specs.Event.{Event}
 use Rattle.rows.specs.declared.refusal.Refusal.TheVariants.{Length}
 use Rattle.unit.specs.Claim.{Step, history_from, ClaimOf}
 use Rattle.unit.specs.Reached.{after}

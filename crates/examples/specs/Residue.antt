@@ -22,9 +22,10 @@ use Rattle.unit.specs.Charts.{charts_in, limit}
 use Rattle.unit.specs.Claim.{history, since, opened_in, entries_of, shown_at}
 use Rattle.unit.specs.Reached.{replay}
 use Rattle.unit.specs.Status.{status_of}
-use Rattle.unit.specs.Take.{new_of, made_of, taken_of}
+use Rattle.unit.specs.Take.{empty_unit, new_of, made_of, taken_of}
 use Rattle.reply.specs.declared.event.Event.TheVariants.{Refused}
-use Rattle.reply.specs.declared.report.Report.{Report}
+use Rattle.reply.specs.Report.{Report}
+use Rattle.reply.specs.declared.stage.Stage.TheVariants.{Closed}
 
 -- ---- the lines
 
@@ -108,8 +109,9 @@ pub record Residues : Type 0 where
   -- P and N of 20, 20, 8 end at their limit and are not over; of 20, 20, 9 they are
   pub limits : (over_on 0 (pos 20 ∷ pos 20 ∷ pos 8 ∷ []) ≡ false) × (over_on 0 (pos 20 ∷ pos 20 ∷ pos 9 ∷ []) ≡ true)
       × (over_on 1 (pos 20 ∷ pos 20 ∷ pos 8 ∷ []) ≡ false) × (over_on 1 (pos 20 ∷ pos 20 ∷ pos 9 ∷ []) ≡ true)
-  -- A unit is made of compound 19, accredited; 20 is refused with 14, and no unit is made.
+  -- A unit is made of compound 19, accredited; 20 is refused with 14, and no unit is made. One of it that was closed would show stage 4.
   pub made : (made_of 19 ≡ Ok (new_of (Residue 19))) × (stage_byte (new_of (Residue 19)).stage ≡ 2) × (made_of 20 ≡ Err Compound) × (number_of Compound ≡ 14)
+      × (stage_byte (status_of (empty_unit (Residue 20) Closed)).stage ≡ 4)
   -- the unit is of the compound that was asked for, and its status is that of a new one
   pub made_of_lem : (made_of 0 ≡ Ok (new_of (Residue 0))) × (stage_byte (status_of (new_of (Residue 0))).stage ≡ 2)
       × ((status_of (new_of (Residue 0))).samples ≡ 0) × ((status_of (new_of (Residue 0))).mask ≡ 0)

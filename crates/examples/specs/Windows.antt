@@ -12,7 +12,7 @@ use Rattle.unit.specs.Reached.{replay}
 use Rattle.unit.specs.Take.{taken_of}
 use Rattle.reply.specs.Stage.{stage_byte}
 use Rattle.rows.specs.declared.refusal.Refusal.TheVariants.{Closed}
-use Rattle.reply.specs.declared.event.Event.{Event}
+use Rattle.reply.specs.Event.{Event}
 use Rattle.reply.specs.declared.event.Event.TheVariants.{Refused, Sample, Missed, ByMisidentifications}
 use Rattle.examples.specs.Residue.{compound, category, counted_line, entries, opened, shown}
 

@@ -13,7 +13,7 @@ abbrev pub fields_at : List ℕ → Fields
 fields_at = layout.fields_at line_bytes food
 
 -- rows 1 and 2 come first, then 3 to 7
-abbrev pub line_rows : List ℕ → List Row
+abbrev pub line_rows : List ℕ → List (Row Refusal)
 line_rows = layout.line_rows line_bytes food
 
 -- the record where no row fits, else the refusal

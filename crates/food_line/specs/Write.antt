@@ -12,7 +12,7 @@ abbrev pub line_of : Record → List ℕ
 line_of = layout.line_of line_bytes food
 
 -- row 13 comes first, then 3 to 7
-abbrev pub write_rows : Record → List ℕ → List Row
+abbrev pub write_rows : Record → List ℕ → List (Row Refusal)
 write_rows = layout.write_rows line_bytes food
 
 -- the answer, and what the buffer then holds

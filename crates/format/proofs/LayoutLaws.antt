@@ -4,6 +4,7 @@ use mathlib.Core.Path.{◌≡◌, refl, sym, ap, ◌∙◌}
 use mathlib.Core.List.{List}
 use lib.ListN.{length}
 use Rattle.std.specs.Prelude.{Ok, Err}
+use Rattle.rows.specs.Refusal.{number_of}
 use Rattle.rows.specs.Rows.{first_row, by_row, Answers}
 use Rattle.rows.specs.declared.refusal.Refusal.{Refusal}
 use Rattle.rows.proofs.RowsLaws.{first_given}
@@ -73,7 +74,7 @@ module _ {Fields Record : Type 0} (bytes : ℕ) (l : Layout Fields Record) where
 
   module _ (r : Record) (buffer : List ℕ) where
     pub write_first : AreTables bytes l (l.fields_of r) → Answers (write_rows bytes l r buffer) (written_of bytes l r buffer)
-    write_first t = first_given (write_rows bytes l r buffer) (t.1 buffer)
+    write_first t = first_given number_of (write_rows bytes l r buffer) (t.1 buffer)
 
     -- a refusal changes no byte
     pub write_kept : BufferKept buffer (buffer_after bytes l r buffer) (written_of bytes l r buffer)

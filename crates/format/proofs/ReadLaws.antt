@@ -8,6 +8,7 @@ use lib.ListN.{length}
 use Rattle.std.specs.Prelude.{Ok}
 use Rattle.rows.specs.Rows.{first_row}
 use Rattle.rows.specs.declared.Row.{Row}
+use Rattle.rows.specs.declared.refusal.Refusal.{Refusal}
 use Rattle.rows.proofs.RowsLaws.{passed}
 use Rattle.digits.specs.Digits.{are_digits, bytes_of}
 use Rattle.digits.specs.Slices.{bytes_after}
@@ -16,17 +17,17 @@ use Rattle.format.specs.Read.{form_rows}
 
 module _ (long : ℕ) (line : List ℕ) where
   -- neither fits, and the own rows decide
-  pub own_row : (own : List Row) → length line ≡ long → are_digits line ≡ true → first_row own ≡ first_row (form_rows long line ++ own)
+  pub own_row : (own : List (Row Refusal)) → length line ≡ long → are_digits line ≡ true → first_row own ≡ first_row (form_rows long line ++ own)
   unfolding first_row
   own_row own h e = rw (eq-eqb (length line) long h, e)
 
 -- what it says of a line that no row fits
-pub record Good (n : ℕ) (line : List ℕ) (own : List Row) : Type 0 where
+pub record Good (n : ℕ) (line : List ℕ) (own : List (Row Refusal)) : Type 0 where
   pub long : length line ≡ n
   pub digits : are_digits line ≡ true
   pub rows : first_row own ≡ Ok tt
 
-pub good : (long : ℕ) (line : List ℕ) (own : List Row) → first_row (form_rows long line ++ own) ≡ Ok tt → Good long line own
+pub good : (long : ℕ) (line : List ℕ) (own : List (Row Refusal)) → first_row (form_rows long line ++ own) ≡ Ok tt → Good long line own
 unfolding first_row
 good long line own e =
     let l = passed _ _ _ e in

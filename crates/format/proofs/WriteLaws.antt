@@ -21,7 +21,7 @@ module _ (long : ℕ) (buffer : List ℕ) (row : Result ⊤ Refusal) where
   pub room : long ≤ length buffer → short_or long buffer row ≡ row
   room h = rw (le-ltb (length buffer) long h)
 
-pub short_row : (long : ℕ) (buffer : List ℕ) (own : List Row) → short_or long buffer (first_row own) ≡ first_row (room_rows long buffer ++ own)
+pub short_row : (long : ℕ) (buffer : List ℕ) (own : List (Row Refusal)) → short_or long buffer (first_row own) ≡ first_row (room_rows long buffer ++ own)
 unfolding first_row
 short_row long buffer own = refl
 
@@ -38,7 +38,7 @@ written_digits : (row : Result ⊤ Refusal) (long : ℕ) (digits buffer : List �
 unfolding buffer_by
 written_digits row long digits buffer e l = ap (λ (k : Result ⊤ Refusal). take long (buffer_by k digits buffer)) e ∙ take_at digits (drop (length digits) buffer) long l
 
-module _ (long : ℕ) (buffer : List ℕ) (own : List Row) where
+module _ (long : ℕ) (buffer : List ℕ) (own : List (Row Refusal)) where
   abbrev first : Result ⊤ Refusal
   first = first_row (room_rows long buffer ++ own)
 

@@ -13,7 +13,7 @@ pub record Layout (Fields Record : Type 0) : Type 0 where
   pub fields_in : List ℕ → Fields
   pub bytes_in : Fields → List ℕ
   -- the rows of the fields
-  pub rows : Fields → List Row
+  pub rows : Fields → List (Row Refusal)
   -- the record that the fields hold, and the fields of a record
   pub record_of : Fields → Record
   pub fields_of : Record → Fields
@@ -25,7 +25,7 @@ module _ {Fields Record : Type 0} (bytes : ℕ) (f : Layout Fields Record) where
   fields_at line = f.fields_in (bytes_of line)
 
   -- rows 1 and 2 come first, then the fields'
-  abbrev pub line_rows : List ℕ → List Row
+  abbrev pub line_rows : List ℕ → List (Row Refusal)
   line_rows line = form_rows (2 * bytes) line ++ f.rows (fields_at line)
 
   -- the record where no row fits, else the refusal
@@ -37,7 +37,7 @@ module _ {Fields Record : Type 0} (bytes : ℕ) (f : Layout Fields Record) where
   line_of r = digits_of (f.bytes_in (f.fields_of r))
 
   -- row 13 comes first, then the fields'
-  abbrev pub write_rows : Record → List ℕ → List Row
+  abbrev pub write_rows : Record → List ℕ → List (Row Refusal)
   write_rows r buffer = room_rows (2 * bytes) buffer ++ f.rows (f.fields_of r)
 
   -- the answer, and what the buffer then holds

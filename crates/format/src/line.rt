@@ -5,9 +5,10 @@ ghost use Rattle.rows.specs.Rows.{first_row};
 ghost use Rattle.digits.specs.Digits.{digits_of};
 ghost use Rattle.digits.specs.Slices.{bytes_after};
 ghost use Rattle.format.specs.Read.{form_rows};
-ghost use Rattle.format.specs.Write.{short_or, buffer_by};
+ghost use Rattle.format.specs.Write.{short_by, buffer_by};
 
 use digits::{read_digits, write_digits};
+use rows::reason::Reason;
 use rows::refusal::Refusal;
 
 // Reads a line of two digits for each lent byte; or gives the first of rows 1 and 2 that fits, and no
@@ -28,14 +29,14 @@ pub fn read_line(line: &[u8], bytes: &mut [u8]) -> Result<(), Refusal>
 }
 
 // Puts the digits of a record's bytes at the start of a buffer, or leaves it alone: where it is short,
-// or where the record's own rows refuse.
+// or where the record's own rows refuse, by what stands there for a refusal.
 #[tactic(auto, unfolding(crate::specs::Write::buffer_by, digits::specs::Slices::has_room, digits::specs::Slices::digits_after), using(digits::proofs::ByteLaws::length_digits_of))]
-pub fn write_line(row: Result<(), Refusal>, bytes: &[u8], buffer: &mut [u8]) -> Result<(), Refusal>
-    ensures answer { result ≡ short_or (2 * length bytes.now) buffer.old row }
-    ensures digits { buffer.new ≡ buffer_by (short_or (2 * length bytes.now) buffer.old row) (digits_of bytes.now) buffer.old }
+pub fn write_line<R: Reason>(row: Result<(), R>, bytes: &[u8], buffer: &mut [u8]) -> Result<(), R>
+    ensures answer { result ≡ short_by R.reason (2 * length bytes.now) buffer.old row }
+    ensures digits { buffer.new ≡ buffer_by (short_by R.reason (2 * length bytes.now) buffer.old row) (digits_of bytes.now) buffer.old }
 {
     if buffer.len() / 2 < bytes.len() {
-        return Err(Refusal::Short);
+        return Err(R::reason(Refusal::Short));
     }
     row?;
     write_digits(bytes, buffer);

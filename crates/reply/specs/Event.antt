@@ -3,10 +3,14 @@
 use Rattle.std.specs.Prelude.{ℕ, Result, Ok, Err, ⊤}
 use Rattle.rows.specs.declared.refusal.Refusal.{Refusal}
 use Rattle.rows.specs.Refusal.{number_of}
-use Rattle.reply.specs.declared.event.Event.{Event}
+use Rattle.reply.specs.declared.event.Event as E
 use Rattle.reply.specs.declared.event.Event.TheVariants.{Refused, Sample, Missed, UnderWay, Passed, Failed, ByCharts, ByMisses, ByMisidentifications}
 
-abbrev pub event_byte : Event → ℕ
+-- what a unit says, which names the row
+abbrev pub Event : Type 0
+Event = E.Event Refusal
+
+abbrev pub event_byte : {R : Type 0} → E.Event R → ℕ
 event_byte (Refused refusal) = 0
 event_byte Sample = 1
 event_byte Missed = 2
@@ -17,19 +21,23 @@ event_byte ByCharts = 6
 event_byte ByMisses = 7
 event_byte ByMisidentifications = 8
 
+-- `number` says the number of what stands for a row
+abbrev pub number_byte_by : {R : Type 0} → (R → ℕ) → E.Event R → ℕ
+number_byte_by number (Refused refusal) = number refusal
+number_byte_by number Sample = 0
+number_byte_by number Missed = 0
+number_byte_by number (UnderWay n) = n
+number_byte_by number Passed = 0
+number_byte_by number Failed = 0
+number_byte_by number ByCharts = 0
+number_byte_by number ByMisses = 0
+number_byte_by number ByMisidentifications = 0
+
 abbrev pub number_byte : Event → ℕ
-number_byte (Refused refusal) = number_of refusal
-number_byte Sample = 0
-number_byte Missed = 0
-number_byte (UnderWay n) = n
-number_byte Passed = 0
-number_byte Failed = 0
-number_byte ByCharts = 0
-number_byte ByMisses = 0
-number_byte ByMisidentifications = 0
+number_byte = number_byte_by number_of
 
 -- what an event says of the table of refusals: event 00 is refused, by its row
-abbrev pub event_row : Event → Result ⊤ Refusal
+abbrev pub event_row : {R : Type 0} → E.Event R → Result ⊤ R
 event_row (Refused refusal) = Err refusal
 event_row Sample = Ok tt
 event_row Missed = Ok tt

@@ -1,6 +1,12 @@
 -- Document 01, "The program": how the status names a chart, and what it shows of one that a category does not have.
 use Rattle.std.specs.Prelude.{ℕ, ◌/◌, ◌%◌, ◌^◌, Bool, false, eqb, pos}
 use Rattle.reply.specs.declared.report.ChartReport.{ChartReport}
+use Rattle.reply.specs.declared.report.Report as R
+use Rattle.reply.specs.declared.stage.Stage.{Stage}
+
+-- what a unit says, which names the stage
+abbrev pub Report : Type 0
+Report = R.Report Stage
 
 -- a chart is named by its bit
 abbrev pub bit_at : ℕ → ℕ → Bool

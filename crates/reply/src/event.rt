@@ -1,10 +1,10 @@
 // What a line did.
-use rows::refusal::Refusal;
 
+// `R` stands for the row of a refusal: its name, as a unit says it, or its number.
 #[derive(Clone, Copy)]
-pub enum Event {
+pub enum Event<R> {
     // Refused, by the row.
-    Refused(Refusal),
+    Refused(R),
     // A sample.
     Sample,
     // A missed line.

@@ -2,6 +2,8 @@
 ghost use Rattle.std.specs.Prelude.{◌≡◌};
 ghost use Rattle.reply.specs.Stage.{stage_byte};
 
+use rows::numbered::Numbered;
+
 // An applicant in the first set and in the second, accredited, on probation, and closed.
 #[derive(Clone, Copy, Debug, PartialEq, Eq)]
 pub enum Stage {
@@ -18,5 +20,13 @@ impl From<Stage> for u8 {
 
     fn from(stage: Stage) -> u8 {
         stage as u8
+    }
+}
+
+impl Numbered for Stage {
+    ghost number = { stage_byte };
+
+    fn number(self) -> u8 {
+        u8::from(self)
     }
 }

@@ -14,7 +14,7 @@ abbrev pub fields_at : List ℕ → Fields
 fields_at line = fields_in (bytes_of line)
 
 -- rows 1 and 2 come first, then the fields'
-abbrev pub line_rows : ℕ → List ℕ → List Row
+abbrev pub line_rows : ℕ → List ℕ → List (Row Refusal)
 line_rows compound = layout.line_rows line_bytes (residue compound)
 
 -- the record where no row fits, else the refusal

@@ -13,7 +13,7 @@ abbrev pub line_of : Record → List ℕ
 line_of r = digits_of (bytes_in (fields_of r))
 
 -- row 13 comes first, then the fields'
-abbrev pub write_rows : ℕ → Record → List ℕ → List Row
+abbrev pub write_rows : ℕ → Record → List ℕ → List (Row Refusal)
 write_rows compound = layout.write_rows line_bytes (residue compound)
 
 -- the answer, and what the buffer then holds

@@ -4,6 +4,7 @@ use mathlib.Core.Bool.{true}
 use mathlib.Core.List.{List}
 use Rattle.std.specs.Prelude.{Result, Ok, Err, ⊤}
 use Rattle.laws.proofs.Results.{ok_is_no_err, same_err, same_ok}
+use Rattle.rows.specs.Refusal.{number_of}
 use Rattle.rows.specs.Rows.{first_row, by_row, distinct, Answers}
 use Rattle.rows.specs.declared.Row.{Row}
 use Rattle.rows.specs.declared.refusal.Refusal.{Refusal}
@@ -27,10 +28,10 @@ module _ {A : Type 0} (whole : A) where
   pub whole_too : {B : Type 0} (f : A → B) (row : Result ⊤ Refusal) (a : A) → Ok a ≡ by_row whole row → Ok (f a) ≡ by_row (f whole) row
   whole_too f row a e = let p = whole_is row a (sym e) in ap (λ (y : A). Ok (f y)) p.1 ∙ sym (ap (by_row (f whole)) p.0)
 
-  answers_by : (rows : List Row) (row : Result ⊤ Refusal) → Answers rows row → Answers rows (by_row whole row)
+  answers_by : (rows : List (Row Refusal)) (row : Result ⊤ Refusal) → Answers rows row → Answers rows (by_row whole row)
   answers_by rows (Ok none) a = a
   answers_by rows (Err n) a = a
 
   -- the first row that fits is given
-  pub first_by : (rows : List Row) → distinct rows ≡ true → Answers rows (by_row whole (first_row rows))
-  first_by rows d = answers_by rows (first_row rows) (first_given rows d)
+  pub first_by : (rows : List (Row Refusal)) → distinct rows ≡ true → Answers rows (by_row whole (first_row rows))
+  first_by rows d = answers_by rows (first_row rows) (first_given number_of rows d)

@@ -2,6 +2,8 @@
 
 #![tactic(auto)]
 
+pub mod numbered;
+pub mod reason;
 pub mod refusal;
 
 ghost use Rattle.std.specs.Prelude.{◌≡◌};
@@ -9,24 +11,24 @@ ghost use Rattle.rows.specs.Rows.{first_row};
 
 use refusal::Refusal;
 
-// A row of the table: the refusal that it stands for, and whether it fits.
+// A row of a table: what stands for its refusal, its name or its number, and whether it fits.
 #[derive(Clone, Copy)]
-pub struct Row {
-    pub refusal: Refusal,
+pub struct Row<R> {
+    pub refusal: R,
     pub fits: bool,
 }
 
-impl Row {
+impl Row<Refusal> {
     // The row of a refusal, and whether it fits.
-    pub fn new(refusal: Refusal, fits: bool) -> Row
+    pub fn new(refusal: Refusal, fits: bool) -> Row<Refusal>
         ensures { result ≡ record { refusal = refusal; fits = fits } }
     {
         Row { refusal, fits }
     }
 }
 
-// Nothing where no row fits, or the refusal of the first that does.
-pub fn first_of(rows: &[Row]) -> Result<(), Refusal>
+// Nothing where no row fits, or what stands for the refusal of the first that does.
+pub fn first_of<R: Copy>(rows: &[Row<R>]) -> Result<(), R>
     ensures { result ≡ first_row rows.now }
 {
     for row in rows {

@@ -10,13 +10,14 @@ use Rattle.food_line.specs.Read as food_read
 use Rattle.residue_line.specs.Fields as residue_fields
 use Rattle.residue_line.specs.Read as residue_read
 use Rattle.rows.specs.declared.Row.{Row}
+use Rattle.rows.specs.declared.refusal.Refusal.{Refusal}
 use Rattle.seen.specs.Food as food_seen
 use Rattle.seen.specs.Residue as residue_seen
 use Rattle.seen.specs.declared.Seen.{Seen}
 
 pub record Rules : Type 0 where
   -- the rows by which a line of the category does not read
-  pub rows : List ℕ → List Row
+  pub rows : List ℕ → List (Row Refusal)
   -- what a line is to the unit, where none of them fits
   pub seen : List ℕ → Seen
   pub constants : Constants

@@ -8,9 +8,8 @@ use native.Mathlib.Omega.{arith}
 use borrow.Author.Tests.{eq-eqb, ne_eqb}
 use lib.ListN.{length, get_or, length-append}
 use Rattle.difference.specs.Contribution.{CHARTS}
-use Rattle.reply.specs.Report.{bit_at, no_report}
+use Rattle.reply.specs.Report.{Report, bit_at, no_report}
 use Rattle.reply.specs.declared.report.ChartReport.{ChartReport}
-use Rattle.reply.specs.declared.report.Report.{Report}
 use Rattle.text.specs.bounds.Room.{STATUS, RUNS, RUN}
 use Rattle.text.specs.Buffer.{with_text}
 use Rattle.text.specs.Text.{line_text, run_bytes, chart_text, run_texts, stage_bytes, status_text}

@@ -2,7 +2,7 @@
 
 ghost use Rattle.std.specs.Prelude.{◌≡◌, ◌≤◌, length};
 ghost use Rattle.difference.specs.Contribution.{CHARTS};
-ghost use Rattle.text.specs.Text.{stage_bytes, run_bytes, run_texts, status_text};
+ghost use Rattle.text.specs.Text.{stage_bytes_by, run_bytes, run_texts, status_text_by};
 ghost use Rattle.text.specs.bounds.Room.{RUNS, STATUS as STATUS_ROOM};
 ghost use Rattle.text.specs.Buffer.{with_text, put_text, put_place};
 
@@ -10,6 +10,7 @@ use crate::line::put_line;
 use crate::room::has_room;
 use difference::constants::CHARTS;
 use reply::report::{ChartReport, Report};
+use rows::numbered::Numbered;
 
 // How many bytes the status line and a chart's line have: two digits to a byte, and a newline.
 const STAGE: usize = 13;
@@ -19,13 +20,13 @@ const RUN: usize = 19;
 // How many bytes the status has at most.
 pub const STATUS: usize = STAGE + CHARTS * RUN;
 
-fn stage_bytes(report: Report) -> [u8; 6]
-    ensures { result ≡ stage_bytes report }
+fn stage_bytes<S: Numbered>(report: Report<S>) -> [u8; 6]
+    ensures { result ≡ stage_bytes_by S.number report }
 {
     let samples = report.samples.to_be_bytes();
     let mask = report.mask.to_be_bytes();
     [
-        u8::from(report.stage),
+        report.stage.number(),
         samples[0],
         samples[1],
         mask[0],
@@ -63,9 +64,9 @@ fn put_charts(mask: u16, charts: [ChartReport; CHARTS], room: &mut [u8]) -> usiz
 
 // Puts the status into the buffer, from `at` on, as `put_answer` does, and gives the place after it. Where there might be no
 // room for it nothing changes.
-pub fn put_status(report: Report, buffer: &mut [u8], at: usize) -> usize
-    ensures place { result ≡ put_place STATUS_ROOM buffer.old at (status_text report) }
-    ensures text { buffer.new ≡ put_text STATUS_ROOM buffer.old at (status_text report) }
+pub fn put_status<S: Numbered>(report: Report<S>, buffer: &mut [u8], at: usize) -> usize
+    ensures place { result ≡ put_place STATUS_ROOM buffer.old at (status_text_by S.number report) }
+    ensures text { buffer.new ≡ put_text STATUS_ROOM buffer.old at (status_text_by S.number report) }
 {
     if has_room(buffer.len(), at, STATUS) {
         let room = &mut buffer[at..];

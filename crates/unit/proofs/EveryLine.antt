@@ -20,7 +20,7 @@ use Rattle.unit.specs.Stretch.{sampled_of, any_over}
 use Rattle.unit.specs.Take.{failed_stage, missed_by, latest_after, sample_by, judged_by, study_by, accepted_by, taken_by_row, rows_in, taken_in}
 use Rattle.unit.specs.bounds.Numbers.{GoodSeen}
 use Rattle.unit.specs.declared.Contents as U
-use Rattle.reply.specs.declared.event.Event.{Event}
+use Rattle.reply.specs.Event.{Event}
 use Rattle.reply.specs.declared.event.Event.TheVariants.{Refused, UnderWay, Failed}
 use Rattle.seen.specs.declared.Seen.{Seen}
 use Rattle.unit.specs.declared.set.Set.{Set}

@@ -19,7 +19,7 @@ use Rattle.food_line.specs.declared.record.Reading.{Reading}
 use Rattle.food_line.proofs.Inverse.{good}
 use Rattle.food_line.proofs.RowLaws.{Clean, clean}
 use Rattle.std.specs.Prelude.{Ok}
-use Rattle.rows.specs.Rows.{first_row, has_number, distinct}
+use Rattle.rows.specs.Rows.{first_row, has_number_by, distinct_by}
 use Rattle.seen.specs.Food.{hundredths_in, difference_for, by_analyte, seen_of}
 use Rattle.seen.proofs.FoodLaws.{kind_is, reads}
 use Rattle.unit.specs.Accepted.{Accepted, AcceptedIs}
@@ -49,7 +49,7 @@ good_line line e = good_fields (fields_at line) (clean (fields_at line) (good li
 
 -- food chemistry has what the unit needs of a category
 pub food_sound : Sound food_chemistry
-unfolding distinct has_number
+unfolding distinct_by has_number_by
 food_sound = record {
   few = lit≤ tt;
   fits = food_fits;

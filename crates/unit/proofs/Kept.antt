@@ -34,11 +34,10 @@ use Rattle.unit.specs.bounds.Numbers.{GoodSeen}
 use Rattle.unit.specs.declared.Contents as U
 use Rattle.unit.specs.declared.Misses.{Misses}
 use Rattle.unit.specs.declared.chart.Chart.{Chart}
-use Rattle.reply.specs.Event.{event_byte}
+use Rattle.reply.specs.Event.{Event, event_byte}
 use Rattle.reply.specs.Stage.{is_accredited}
 use Rattle.reply.specs.declared.stage.Stage.{Stage}
 use Rattle.reply.specs.declared.stage.Stage.TheVariants.{Applicant, Second, Accredited, Probation, Closed}
-use Rattle.reply.specs.declared.event.Event.{Event}
 use Rattle.reply.specs.declared.event.Event.TheVariants.{Sample, Missed as MissedLine, ByCharts, ByMisses, ByMisidentifications}
 use Rattle.seen.specs.declared.Seen.{Seen}
 use Rattle.unit.specs.declared.stretch.Stretch.{Stretch}

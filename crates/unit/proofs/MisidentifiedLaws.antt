@@ -12,7 +12,7 @@ use Rattle.grounds.specs.Claim.{Misidentified}
 use Rattle.grounds.specs.Earlier.{again, no_counts, latest_of, is_broken}
 use Rattle.laws.proofs.Bools.{or_either, or_neither}
 use Rattle.laws.proofs.Cond.{cases}
-use Rattle.reply.specs.declared.event.Event.{Event}
+use Rattle.reply.specs.Event.{Event}
 use Rattle.reply.specs.declared.event.Event.TheVariants.{Refused, Sample, Missed, UnderWay, Passed, Failed, ByCharts, ByMisses, ByMisidentifications}
 use Rattle.std.specs.Prelude.{Result, Ok, Err, ⊤}
 use Rattle.rows.specs.declared.refusal.Refusal.{Refusal}

@@ -8,11 +8,11 @@ use lib.Dec.{eqb}
 use Rattle.grounds.specs.Earlier.{again, is_broken}
 use Rattle.std.specs.Prelude.{Result, Ok, Err, ⊤}
 use Rattle.rows.specs.declared.refusal.Refusal.{Refusal}
+use Rattle.rows.specs.Refusal.{number_of}
 use Rattle.rows.specs.Rows.{first_row, distinct, Answers}
 use Rattle.rows.proofs.RowsLaws.{first_given}
 use Rattle.seen.specs.Rules.{Rules, rules_of}
-use Rattle.reply.specs.Event.{event_byte, event_row}
-use Rattle.reply.specs.declared.event.Event.{Event}
+use Rattle.reply.specs.Event.{Event, event_byte, event_row}
 use Rattle.reply.specs.declared.event.Event.TheVariants.{Refused, Sample, Missed, UnderWay, Passed, Failed, ByCharts, ByMisses, ByMisidentifications}
 use Rattle.unit.specs.Set.{entered_of, passes_set}
 use Rattle.unit.specs.Stretch.{sampled_of, any_over}
@@ -103,4 +103,4 @@ row_by (Err n) c u x = refl
 
 pub first_row_given : (g : Rules) (u : U.Contents) (line : List ℕ) → distinct (rows_in g u line) ≡ true → Answers (rows_in g u line) (event_row (taken_in g u line).event)
 unfolding taken_in
-first_row_given g u line d = rw (row_by (first_row (rows_in g u line)) g.constants u (g.seen line)) (first_given (rows_in g u line) d)
+first_row_given g u line d = rw (row_by (first_row (rows_in g u line)) g.constants u (g.seen line)) (first_given number_of (rows_in g u line) d)

@@ -16,7 +16,7 @@ use Rattle.residue_line.specs.declared.record.Record.{Record}
 use Rattle.residue_line.proofs.Inverse.{good}
 use Rattle.residue_line.proofs.RowLaws.{Clean, clean}
 use Rattle.std.specs.Prelude.{Ok, Option, Some, None}
-use Rattle.rows.specs.Rows.{first_row, has_number, distinct}
+use Rattle.rows.specs.Rows.{first_row, has_number_by, distinct_by}
 use Rattle.seen.specs.Residue.{difference_for, differences_of, seen_of}
 use Rattle.seen.proofs.ResidueLaws.{reads}
 use Rattle.unit.specs.Accepted.{AcceptedResidue, AcceptedResidueIs}
@@ -48,7 +48,7 @@ module _ (compound : ℕ) where
 
   -- residues of a compound have what the unit needs of a category
   pub residue_sound : Sound (residues_of compound)
-  unfolding distinct has_number
+  unfolding distinct_by has_number_by
   residue_sound = record {
     few = lit≤ tt;
     fits = residue_fits;

@@ -13,8 +13,7 @@ use Rattle.difference.specs.declared.category.Category.{Category}
 use Rattle.difference.specs.declared.category.Category.TheVariants.{Residue}
 use Rattle.grounds.specs.Earlier.{again, is_broken}
 use Rattle.laws.proofs.Bools.{or_neither}
-use Rattle.reply.specs.Event.{event_byte, event_row}
-use Rattle.reply.specs.declared.event.Event.{Event}
+use Rattle.reply.specs.Event.{Event, event_byte, event_row}
 use Rattle.reply.specs.declared.event.Event.TheVariants.{Refused}
 use Rattle.std.specs.Prelude.{Result, Ok, Err, ⊤}
 use Rattle.laws.proofs.Results.{same_err}
@@ -24,7 +23,7 @@ use Rattle.reply.specs.declared.stage.Stage.TheVariants.{Accredited, Probation}
 use Rattle.rows.specs.Refusal.{number_of}
 use Rattle.rows.specs.declared.refusal.Refusal.{Refusal}
 use Rattle.rows.specs.declared.refusal.Refusal.TheVariants.{Closed as ClosedRow, Stage as StageRow, Backdated, Gap, Full, Compound}
-use Rattle.rows.specs.Rows.{first_row, has_number}
+use Rattle.rows.specs.Rows.{first_row, has_number, has_number_by}
 use Rattle.rows.proofs.RowsLaws.{first_has, first_of_both, first_of_one}
 use Rattle.seen.specs.declared.Seen.{Seen}
 use Rattle.seen.specs.Rules.{Rules, residues_of, rules_of}
@@ -82,10 +81,10 @@ module _ (compound : ℕ) (u : U.Contents) (of : OfResidues compound u) (line : 
   -- ---- rows 9 and 11
 
   not_read : (n : Refusal) → first_row (g.rows line) ≡ Err n → Other (Err n)
-  unfolding has_number
+  unfolding has_number_by
   not_read n e = (
-    λ k. true≢false (sym (subst (λ (m : Refusal). has_number (number_of m) (g.rows line) ≡ true) (same_err n StageRow k) (first_has (g.rows line) n e))),
-    λ k. true≢false (sym (subst (λ (m : Refusal). has_number (number_of m) (g.rows line) ≡ true) (same_err n Gap k) (first_has (g.rows line) n e))),
+    λ k. true≢false (sym (subst (λ (m : Refusal). has_number (number_of m) (g.rows line) ≡ true) (same_err n StageRow k) (first_has number_of (g.rows line) n e))),
+    λ k. true≢false (sym (subst (λ (m : Refusal). has_number (number_of m) (g.rows line) ≡ true) (same_err n Gap k) (first_has number_of (g.rows line) n e))),
   )
 
   row_other : Other (first_row (rows_in g u line))

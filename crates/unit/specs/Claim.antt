@@ -6,13 +6,11 @@ use Rattle.grounds.specs.Entry.{Entry, missed as aMiss, sample}
 use Rattle.difference.specs.declared.category.Category.{Category}
 use Rattle.seen.specs.Rules.{Rules, rules_of}
 use Rattle.unit.specs.Charts.{charts_in, contribution_to, limit}
-use Rattle.reply.specs.Event.{event_byte}
-use Rattle.reply.specs.Report.{bit_at, no_report}
+use Rattle.reply.specs.Event.{Event, event_byte}
+use Rattle.reply.specs.Report.{Report, bit_at, no_report}
 use Rattle.unit.specs.Take.{new_of, taken_of}
 use Rattle.unit.specs.declared.Contents as U
 use Rattle.difference.specs.declared.constants.Constants.{Constants}
-use Rattle.reply.specs.declared.event.Event.{Event}
-use Rattle.reply.specs.declared.report.Report.{Report}
 use Rattle.reply.specs.declared.report.ChartReport.{ChartReport}
 use Rattle.seen.specs.declared.Seen.{Seen}
 

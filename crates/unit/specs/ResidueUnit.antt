@@ -3,8 +3,7 @@
 use Rattle.std.specs.Prelude.{ℕ, ◌≡◌, Bool, true, false, cond, ◌||◌, ◌↔◌, List, eqb, Ok}
 use Rattle.difference.specs.declared.category.Category.TheVariants.{Residue}
 use Rattle.field.specs.Residue.{no_compound}
-use Rattle.reply.specs.Event.{event_byte}
-use Rattle.reply.specs.declared.event.Event.{Event}
+use Rattle.reply.specs.Event.{Event, event_byte}
 use Rattle.reply.specs.declared.event.Event.TheVariants.{Refused}
 use Rattle.residue_line.specs.Read.{line_rows}
 use Rattle.rows.specs.Rows.{first_row}

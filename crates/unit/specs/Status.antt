@@ -9,9 +9,8 @@ use Rattle.unit.specs.Stretch.{chart_at}
 use Rattle.unit.specs.declared.Contents as U
 use Rattle.unit.specs.declared.chart.Chart.{Chart}
 use Rattle.difference.specs.declared.constants.Constants.{Constants}
-use Rattle.reply.specs.Report.{no_report}
+use Rattle.reply.specs.Report.{Report, no_report}
 use Rattle.reply.specs.declared.report.ChartReport.{ChartReport}
-use Rattle.reply.specs.declared.report.Report.{Report}
 use Rattle.unit.specs.declared.stretch.Stretch.{Stretch}
 
 -- a chart, by whether it is over and the stretch's last sample, at which the run shown ends

@@ -20,7 +20,7 @@ use Rattle.unit.specs.declared.Contents as U
 use Rattle.unit.specs.Taken.{Taken}
 use Rattle.unit.specs.declared.Misses.{Misses}
 use Rattle.difference.specs.declared.constants.Constants.{Constants}
-use Rattle.reply.specs.declared.event.Event.{Event}
+use Rattle.reply.specs.Event.{Event}
 use Rattle.reply.specs.declared.event.Event.TheVariants.{Refused, Sample, Missed, UnderWay, Passed, Failed, ByCharts, ByMisses, ByMisidentifications}
 use Rattle.seen.specs.declared.Seen.{Seen}
 use Rattle.unit.specs.declared.set.Set.{Set}
@@ -74,7 +74,7 @@ abbrev pub full_row : U.Contents → Seen → Bool
 full_row u x = (not x.study && not x.missed) && (eqb x.year u.stretch.year && leb FULL u.stretch.samples)
 
 -- rows 8 to 12, in the table's order
-abbrev pub unit_rows : U.Contents → Seen → List Row
+abbrev pub unit_rows : U.Contents → Seen → List (Row Refusal)
 unit_rows u x =
     record { refusal = ClosedRow; fits = closed_row u }
     ∷ record { refusal = StageRow; fits = stage_row u x }
@@ -155,7 +155,7 @@ taken_seen c u x = taken_by_row (first_row (unit_rows u x)) c u x
 
 -- All rows of a line given to a unit, for food chemistry 1 to 12: a line that does not read is refused before the stage is looked at. The first that
 -- fits is given, and only then: clause `first` of `take`.
-abbrev pub rows_in : Rules → U.Contents → List ℕ → List Row
+abbrev pub rows_in : Rules → U.Contents → List ℕ → List (Row Refusal)
 rows_in g u line = g.rows line ++ unit_rows u (g.seen line)
 
 unfoldable pub taken_in : Rules → U.Contents → List ℕ → Taken
@@ -163,7 +163,7 @@ unfolding first_row
 taken_in g u line = taken_by_row (first_row (rows_in g u line)) g.constants u (g.seen line)
 
 -- by the unit's category
-abbrev pub take_rows : U.Contents → List ℕ → List Row
+abbrev pub take_rows : U.Contents → List ℕ → List (Row Refusal)
 take_rows u line = rows_in (rules_of u.category) u line
 
 abbrev pub taken_of : U.Contents → List ℕ → Taken

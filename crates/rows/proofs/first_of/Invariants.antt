@@ -4,4 +4,4 @@ use Rattle.rows.specs.Rows.{first_row}
 use Rattle.rows.proofs.first_of.Given as goal
 
 abbrev pub invariant-loop-row : goal.invariant-loop-row
-invariant-loop-row l = first_row l.initial.rows ≡ first_row (drop l.row-index l.initial.rows)
+invariant-loop-row g l = first_row l.initial.rows ≡ first_row (drop l.row-index l.initial.rows)
