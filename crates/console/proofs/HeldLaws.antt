@@ -1,6 +1,5 @@
 -- More bytes are held, as far as there is room. Assumes nothing.
 use Rattle.std.proofs.Common.{ℕ, ◌≡◌, ◌+◌, ◌-◌, ◌≤◌, List, ◌++◌, length, take, drop, min, sym, ap, ◌∙◌, arith}
-use Rattle.std.proofs.Math.Nat.{min-le_left, min-le_right}
 use Rattle.std.proofs.lemmas.List.{take_min, length-take-le, drop-drop, drop-replicate}
 use Rattle.std.proofs.lemmas.Slice.{take-put_mid, drop-put_mid}
 use Rattle.std.proofs.Math.Seq.{take-append-add}
@@ -8,18 +7,18 @@ use borrow.Rule.Slice.PartMut.{put_mid, same_len_mid, mid_of}
 use Rattle.console.specs.Held.{HELD, IsFilled, held_is}
 
 -- `n` of them are put behind the `held` that there are
-module _ (held n : ℕ) (bytes more put : List ℕ) (f : IsFilled held bytes) (room : n ≡ min (HELD - held) (length more))
+module _ (held n : ℕ) (bytes more put : List ℕ) (f : IsFilled held bytes) (least : n ≤ HELD - held) (most : n ≤ length more)
     (part : put ≡ take n more) (same : length put ≡ length (mid_of held (held + n - held) bytes))
   where
     fits : held + n ≤ HELD
-    fits = let least : min (HELD - held) (length more) ≤ HELD - held = min-le_left (HELD - held) (length more) in omega (arith, f.fits, room, least)
+    fits = omega (arith, f.fits, least)
 
     size : length put ≡ n
-    size = ap length part ∙ length-take-le n more (let most : min (HELD - held) (length more) ≤ length more = min-le_right (HELD - held) (length more) in omega (arith, room, most))
+    size = ap length part ∙ length-take-le n more most
 
-    -- what is held then
-    pub held_more : take (held + n) (put_mid held (held + n - held) bytes put) ≡ take HELD (take held bytes ++ more)
-    held_more =
+    -- what is held then, where it is all that there is room for
+    pub held_more : n ≡ min (HELD - held) (length more) → take (held + n) (put_mid held (held + n - held) bytes put) ≡ take HELD (take held bytes ++ more)
+    held_more room =
         let whole : length (take held bytes) + (HELD - held) ≡ HELD = omega (arith, held_is f, f.fits) in
         take-put_mid held (held + n - held) bytes put (held + n) (omega (arith, size)) (omega (arith, f.fits, f.size))
         ∙ ap (λ (l : List ℕ). take held bytes ++ l) (part ∙ ap (λ (k : ℕ). take k more) room ∙ take_min (HELD - held) more)

@@ -48,3 +48,7 @@ module _ (l rest : List ℕ) (words : List (List ℕ)) (k tail : ℕ) (front : w
         ∙ ap₂ (λ (xs ys : List ℕ). all_bytes words ++ xs ++ ys) last none
         ∙ append-nil (all_bytes words ++ bytes_of rest)
         ∙ both
+
+    -- the place from which the tail is put may be a number of the code's own, if it is where the words' bytes end
+    pub put_from : (from : ℕ) → from ≡ n → put_mid from (b - from) (all_bytes words ++ drop n bytes) (take (b - from) four) ≡ bytes_of l
+    put_from from e = ap (λ (m : ℕ). put_mid m (b - m) (all_bytes words ++ drop n bytes) (take (b - m) four)) e ∙ put_all

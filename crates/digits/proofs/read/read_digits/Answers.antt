@@ -4,7 +4,7 @@ use Rattle.laws.proofs.Bools.{and_both}
 use Rattle.digits.specs.Digits.{are_digits}
 use Rattle.digits.specs.Word.{CHARACTERS, WRITTEN}
 use Rattle.digits.proofs.LoadLaws.{loaded_digits}
-use Rattle.digits.proofs.PutLaws.{tested, put_all}
+use Rattle.digits.proofs.PutLaws.{tested, put_from}
 use Rattle.digits.proofs.SliceLaws.{no_digits, all_digits}
 use Rattle.digits.proofs.read.read_digits.Goals as goal
 
@@ -47,6 +47,6 @@ returns-clause-bytes c =
     let n = WRITTEN * length chunks.result.0.now in
     let long : length c.put_words.new.bytes ≡ length bytes = omega arith in
     rw (c.copy_from_slice.ensures.after, long, c.put_words.ensures)
-    (put_all l chunks.result.1.now chunks.result.0.now (length l / CHARACTERS) c.tail_word-tail.result chunks.ensures.front chunks.ensures.back c.tail_word-tail.ensures bytes
-    c.loaded_bytes.result (length bytes) n c.if-digits-bytes.false refl (ap (λ (i : ℕ). i / CHARACTERS) c.if-digits-bytes.false) (ap (λ (i : ℕ). WRITTEN * i) chunks.ensures.front_len) c.loaded_bytes.ensures
+    (put_from l chunks.result.1.now chunks.result.0.now (length l / CHARACTERS) c.tail_word-tail.result chunks.ensures.front chunks.ensures.back c.tail_word-tail.ensures bytes
+    c.loaded_bytes.result (length bytes) n c.if-digits-bytes.false refl (ap (λ (i : ℕ). i / CHARACTERS) c.if-digits-bytes.false) (ap (λ (i : ℕ). WRITTEN * i) chunks.ensures.front_len) c.loaded_bytes.ensures _ (omega arith)
     ∙ (all_digits l bytes c.if-digits-bytes.false (accepted c)).1)
