@@ -15,6 +15,7 @@ use Rattle.food_line.specs.Fields.{line_bytes, bytes5, fields_in, bytes_in, read
 use Rattle.food_line.specs.bounds.Types.{Typed, TypedReading}
 use Rattle.food_line.specs.Inverse.{WritesBack, ReadsBack}
 use Rattle.food_line.specs.Read.{fields_at, line_rows, read_of}
+use Rattle.food_line.specs.FieldRows.{field_rows}
 use Rattle.food_line.specs.Food.{food}
 use Rattle.field.specs.Refused.{reading_row}
 use Rattle.food_line.specs.Write.{line_of, written_of, buffer_after}
@@ -68,19 +69,17 @@ reading_back Lost h = refl
 
 -- ---- fields that were read, and the record that they hold
 
-fields_again : (bs : List ℕ) → AreBytes bs → Clean (fields_in bs) → fields_of (record_of (fields_in bs)) ≡ fields_in bs
-fields_again bs A c =
-    let f = fields_in bs in
-    rw (
-      tagged_back f.moisture (four_lt bs A 15) c.moisture,
-      tagged_back f.protein (four_lt bs A 20) c.protein,
-      tagged_back f.fat (four_lt bs A 25) c.fat,
-      tagged_back f.salt (four_lt bs A 30) c.salt,
-    )
+clean_again : (f : Fields) → f.moisture.number < 2 ^ 32 → f.protein.number < 2 ^ 32 → f.fat.number < 2 ^ 32 → f.salt.number < 2 ^ 32 → Clean f
+    → fields_of (record_of f) ≡ f
+clean_again f A B C D c =
+    rw (tagged_back f.moisture A c.moisture, tagged_back f.protein B c.protein, tagged_back f.fat C c.fat, tagged_back f.salt D c.salt)
+
+bytes_again : (bs : List ℕ) → AreBytes bs → Clean (fields_in bs) → fields_of (record_of (fields_in bs)) ≡ fields_in bs
+bytes_again bs A = clean_again (fields_in bs) (four_lt bs A 15) (four_lt bs A 20) (four_lt bs A 25) (four_lt bs A 30)
 
 pub fields_back : (f : Fields) → Clean f → FieldsBack line_bytes food f
 fields_back f c bs A n e =
-    subst (λ (g : Fields). Clean g → (fields_of (record_of g) ≡ g) × (bytes_in g ≡ bs)) (sym e) (λ c. (fields_again bs A c, bytes_back bs A n)) c
+    subst (λ (g : Fields). Clean g → (fields_of (record_of g) ≡ g) × (bytes_in g ≡ bs)) (sym e) (λ c. (bytes_again bs A c, bytes_back bs A n)) c
 
 -- ---- a record, and the fields that hold it
 
@@ -138,6 +137,12 @@ good = layout.good line_bytes food
 back_at : (line : List ℕ) → Good line → FieldsBack line_bytes food (fields_at line)
 back_at line g = fields_back (fields_at line) (clean (fields_at line) g.rows)
 
+pub fields_again : (line : List ℕ) → Good line → fields_of (record_of (fields_at line)) ≡ fields_at line
+fields_again line g = (layout.fields_back line_bytes food line (back_at line g) g).0
+
+pub line_again : (line : List ℕ) → Good line → line_of (record_of (fields_at line)) ≡ line
+line_again line g = layout.line_again line_bytes food line (back_at line g) g
+
 -- the line of the record that was read is the line
 pub line_back : (line : List ℕ) (r : Record) → read_of line ≡ Ok r → line_of r ≡ line
 unfolding read_of
@@ -148,7 +153,12 @@ pub written_again : (line : List ℕ) → WritesBack line (read_of line)
 unfolding read_of
 written_again line = layout.written_again line_bytes food line (back_at line)
 
--- Reading what was written returns the same record, bit for bit, for every record that the code can hold.
+-- Reading what was written returns the same record, bit for bit, for every record that the code can hold and that no row refuses: its line, and
+-- what a buffer holds of it.
+pub read_again : (r : Record) → Typed r → first_row (field_rows (fields_of r)) ≡ Ok tt → read_of (line_of r) ≡ Ok r
+unfolding read_of
+read_again r h = layout.read_again line_bytes food r refl (record_back r h)
+
 pub reads_back : (r : Record) (buffer : List ℕ) → Typed r → ReadsBack r (buffer_after r buffer) (written_of r buffer)
 unfolding written_of buffer_after
 reads_back r buffer h = layout.reads_back line_bytes food r buffer refl (record_back r h)

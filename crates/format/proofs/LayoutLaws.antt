@@ -43,13 +43,13 @@ module _ {Fields Record : Type 0} (bytes : ℕ) (l : Layout Fields Record) where
 
   -- ---- a line that was read is written back
 
-  abbrev BackAt : List ℕ → Type 0
+  abbrev pub BackAt : List ℕ → Type 0
   BackAt line = FieldsBack bytes l (fields_at bytes l line)
 
-  fields_back : (line : List ℕ) → BackAt line → Good line → (l.fields_of (l.record_of (fields_at bytes l line)) ≡ fields_at bytes l line) × (l.bytes_in (fields_at bytes l line) ≡ bytes_of line)
+  pub fields_back : (line : List ℕ) → BackAt line → Good line → (l.fields_of (l.record_of (fields_at bytes l line)) ≡ fields_at bytes l line) × (l.bytes_in (fields_at bytes l line) ≡ bytes_of line)
   fields_back line back g = back (bytes_of line) (bytes_of_are line g.digits) (length_bytes_of line bytes g.long) refl
 
-  line_again : (line : List ℕ) → BackAt line → Good line → line_of bytes l (l.record_of (fields_at bytes l line)) ≡ line
+  pub line_again : (line : List ℕ) → BackAt line → Good line → line_of bytes l (l.record_of (fields_at bytes l line)) ≡ line
   line_again line back g =
       let b = fields_back line back g in
       ap (λ (f : Fields). digits_of (l.bytes_in f)) b.0 ∙ ap digits_of b.1 ∙ digits_bytes line bytes g.long g.digits
@@ -83,7 +83,7 @@ module _ {Fields Record : Type 0} (bytes : ℕ) (l : Layout Fields Record) where
   -- ---- a record that was written is read back
 
   -- it is, where no row of its fields fits
-  read_again : (r : Record) → length (l.bytes_in (l.fields_of r)) ≡ bytes → RecordBack bytes l r → first_row (l.rows (l.fields_of r)) ≡ Ok tt → read_of bytes l (line_of bytes l r) ≡ Ok r
+  pub read_again : (r : Record) → length (l.bytes_in (l.fields_of r)) ≡ bytes → RecordBack bytes l r → first_row (l.rows (l.fields_of r)) ≡ Ok tt → read_of bytes l (line_of bytes l r) ≡ Ok r
   read_again r long back e =
       let f = l.fields_of r in
       let b = back e in

@@ -25,6 +25,7 @@ use Rattle.residue_line.specs.Fields.{line_bytes, fields_in, bytes_in, result_of
 use Rattle.residue_line.specs.bounds.Types.{Typed}
 use Rattle.residue_line.specs.Inverse.{WritesBack, ReadsBack}
 use Rattle.residue_line.specs.Read.{fields_at, line_rows, read_of}
+use Rattle.residue_line.specs.FieldRows.{field_rows}
 use Rattle.residue_line.specs.Residue.{residue}
 use Rattle.residue_line.specs.Write.{line_of, written_of, buffer_after}
 use Rattle.residue_line.specs.declared.fields.Fields.{Fields}
@@ -44,11 +45,11 @@ tagged_back t count e =
     (λ (z : t.tag ≡ LOST). rw (z, r.lost z))
     r.tagged
 
-fields_again : (given : ℕ) (f : Fields) → Clean given f → fields_of (record_of f) ≡ f
-fields_again given f c = rw (tagged_back f.result f.count c.result)
+clean_again : (given : ℕ) (f : Fields) → Clean given f → fields_of (record_of f) ≡ f
+clean_again given f c = rw (tagged_back f.result f.count c.result)
 
 pub fields_back : (given : ℕ) (f : Fields) → Clean given f → FieldsBack line_bytes (residue given) f
-fields_back given f c bs A n e = (fields_again given f c, ap bytes_in e ∙ bytes_back bs A n)
+fields_back given f c bs A n e = (clean_again given f c, ap bytes_in e ∙ bytes_back bs A n)
 
 -- ---- a record, and the fields that hold it
 
@@ -106,6 +107,12 @@ module _ (compound : ℕ) where
   back_at : (line : List ℕ) → Good line → FieldsBack line_bytes (residue compound) (fields_at line)
   back_at line g = fields_back compound (fields_at line) (clean compound (fields_at line) g.rows)
 
+  pub fields_again : (line : List ℕ) → Good line → fields_of (record_of (fields_at line)) ≡ fields_at line
+  fields_again line g = (layout.fields_back line_bytes (residue compound) line (back_at line g) g).0
+
+  pub line_again : (line : List ℕ) → Good line → line_of (record_of (fields_at line)) ≡ line
+  line_again line g = layout.line_again line_bytes (residue compound) line (back_at line g) g
+
   -- the line of the record that was read is the line
   pub line_back : (line : List ℕ) (r : Record) → read_of compound line ≡ Ok r → line_of r ≡ line
   unfolding read_of
@@ -116,7 +123,12 @@ module _ (compound : ℕ) where
   unfolding read_of
   written_again line = layout.written_again line_bytes (residue compound) line (back_at line)
 
-  -- Reading what was written returns the same record, for every record that the code can hold.
+  -- Reading what was written returns the same record, for every record that the code can hold and that no row refuses: its line, and what a
+  -- buffer holds of it.
+  pub read_again : (r : Record) → Typed r → first_row (field_rows compound (fields_of r)) ≡ Ok tt → read_of compound (line_of r) ≡ Ok r
+  unfolding read_of
+  read_again r h = layout.read_again line_bytes (residue compound) r refl (record_back compound r h)
+
   pub reads_back : (r : Record) (buffer : List ℕ) → Typed r → ReadsBack compound r (buffer_after compound r buffer) (written_of compound r buffer)
   unfolding written_of buffer_after
   reads_back r buffer h = layout.reads_back line_bytes (residue compound) r buffer refl (record_back compound r h)
