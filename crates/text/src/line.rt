@@ -8,7 +8,7 @@ use crate::NEWLINE;
 use digits::write_digits;
 
 // Puts the digits of the bytes and a newline at the start of the room, and gives the place after them.
-#[tactic(auto, using(crate::proofs::BufferLaws::line_length_lem))]
+#[tactic(auto, using(crate::proofs::BufferLaws::line_length_lem, crate::proofs::BufferLaws::line_put, std::proofs::lemmas::Grind::common_steps))]
 pub fn put_line(bytes: &[u8], room: &mut [u8]) -> usize
     requires { length (line_text bytes.now) ≤ length room.old }
     ensures place { result ≡ length (line_text bytes.now) }
