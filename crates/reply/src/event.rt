@@ -1,8 +1,9 @@
 // What a line did.
+use rows::refusal::Refusal;
 
 // `R` stands for the row of a refusal: its name, as a unit says it, or its number.
 #[derive(Clone, Copy)]
-pub enum Event<R> {
+pub enum Event<R = Refusal> {
     // Refused, by the row.
     Refused(R),
     // A sample.

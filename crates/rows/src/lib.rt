@@ -13,14 +13,14 @@ use refusal::Refusal;
 
 // A row of a table: what stands for its refusal, its name or its number, and whether it fits.
 #[derive(Clone, Copy)]
-pub struct Row<R> {
+pub struct Row<R = Refusal> {
     pub refusal: R,
     pub fits: bool,
 }
 
-impl Row<Refusal> {
+impl Row {
     // The row of a refusal, and whether it fits.
-    pub fn new(refusal: Refusal, fits: bool) -> Row<Refusal>
+    pub fn new(refusal: Refusal, fits: bool) -> Row
         ensures { result ≡ record { refusal = refusal; fits = fits } }
     {
         Row { refusal, fits }

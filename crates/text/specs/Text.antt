@@ -23,6 +23,7 @@ line_text bytes = digits_of bytes ++ NEWLINE ∷ []
 abbrev pub event_bytes_by : {R : Type 0} → (R → ℕ) → E.Event R → List ℕ
 event_bytes_by number e = event_byte e ∷ number_byte_by number e ∷ []
 
+-- of what a unit says, which names the row
 abbrev pub event_bytes : Event → List ℕ
 event_bytes = event_bytes_by number_of
 
@@ -41,6 +42,7 @@ misses_byte false = 0
 abbrev pub stage_bytes_by : {S : Type 0} → (S → ℕ) → R.Report S → List ℕ
 stage_bytes_by number r = number r.stage ∷ number_bytes 2 r.samples ++ number_bytes 2 r.mask ++ misses_byte r.misses ∷ []
 
+-- of what a unit says, which names the stage
 abbrev pub stage_bytes : Report → List ℕ
 stage_bytes = stage_bytes_by stage_byte
 

@@ -88,7 +88,7 @@ impl Unit {
 // What taking a line gives: the event, and the unit after it, or what the unit holds.
 #[derive(Clone, Copy)]
 pub struct Taken<U> {
-    pub event: Event<Refusal>,
+    pub event: Event,
     pub unit: U,
 }
 
@@ -163,7 +163,7 @@ pub fn take(unit: Unit, line: &[u8]) -> Taken<Unit>
 
 // The status of a unit. Whatever category it is of and whatever list of lines led to it, nobody with
 // that list can find a ground for probation that the status misses, or overturn one that it names.
-pub fn status(unit: Unit) -> Report<Stage>
+pub fn status(unit: Unit) -> Report
     ensures whole { result ≡ status_of unit }
     ensures claim { (k : K.Category) (ls : List (List ℕ)) → replay k ls ≡ unit → ClaimOf k ls result }
 {
