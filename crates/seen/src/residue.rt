@@ -44,6 +44,9 @@ fn see_record(r: Record) -> Seen
 pub fn see_residue(compound: u8, line: &[u8]) -> Result<Seen, Refusal>
     ensures { result ≡ sight_in (residues_of compound) line.now }
 {
-    let record = residue_line::read(compound, line)?;
+    let answer = residue_line::read(compound, line);
+    let Ok(record) = answer else {
+        return answer.map(see_record);
+    };
     Ok(see_record(record))
 }

@@ -87,7 +87,7 @@ impl Unit {
 
 // What taking a line gives: the event, and the unit after it, or what the unit holds.
 #[derive(Clone, Copy)]
-pub struct Taken<U> {
+pub struct Taken<U = Unit> {
     pub event: Event,
     pub unit: U,
 }
@@ -146,7 +146,7 @@ fn take_line(contents: Contents, line: &[u8]) -> Taken<Contents>
 // `whole`: both are the definition's. `reached`: the unit is one that our calls made. `kept`: a
 // refusal hands the unit back as it was. `first`: a line is refused exactly where a row fits, with the
 // number of the first that does.
-pub fn take(unit: Unit, line: &[u8]) -> Taken<Unit>
+pub fn take(unit: Unit, line: &[u8]) -> Taken
     ensures whole { result ≡ taken_of unit line.now }
     ensures reached { Reached result.unit }
     ensures kept { event_byte result.event ≡ 0 → result.unit ≡ unit }
