@@ -23,7 +23,7 @@ struct Thousandths {
 }
 
 // By class, whose number is the place.
-static COEFFICIENTS: [Thousandths; 4] = [
+const COEFFICIENTS: [Thousandths; 4] = [
     // cured pork and canned ham
     Thousandths {
         moisture: 500,

@@ -3,7 +3,7 @@ ghost use Rattle.std.specs.Prelude.{◌≡◌, ◌≤◌};
 ghost use Rattle.difference.specs.Difference.{power_of};
 
 // For T from 1 on: the largest whole p with p^20 at most T^13 times 10^67.
-static POWERS: [u32; 1000] = [
+const POWERS: [u32; 1000] = [
     2238, 3512, 4572, 5512, 6372, 7174, 7930, 8649, 9338, 10000, 10639, 11258, 11859, 12444, 13015,
     13573, 14118, 14653, 15177, 15691, 16197, 16694, 17183, 17665, 18140, 18609, 19071, 19527,
     19978, 20423, 20863, 21298, 21728, 22154, 22575, 22993, 23406, 23815, 24220, 24622, 25021,
