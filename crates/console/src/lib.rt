@@ -18,8 +18,8 @@ use newline::line_end;
 use part::Part;
 use std::marker::Model;
 use text::NEWLINE;
-use text::answer::{ANSWER, put_answer};
-use text::report::{STATUS, put_status};
+use text::answer::{ANSWER, put_answer_by};
+use text::report::{STATUS, put_status_by};
 use unit::{Unit, status, take};
 
 // How many bytes the end has at most: the unended line's answer, and the status.
@@ -101,13 +101,13 @@ pub fn feed(start: Console, input: &[u8], output: &mut [u8]) -> Fed
             if line.is_empty() {
                 // A copy: the loop is quicker where only `take` is handed the unit itself.
                 let there = unit;
-                written = put_status(status(there), output, written);
+                written = put_status_by(status(there), output, written);
             } else {
                 let answer = take(unit, line);
                 let event = answer.event;
                 unit = answer.unit;
                 part = Part::new();
-                written = put_answer(event, output, written);
+                written = put_answer_by(event, output, written);
             }
         }
     }
@@ -156,5 +156,5 @@ pub fn finish(console: Console, output: &mut [u8]) -> usize
         return 0;
     }
     let last = end_line(console, output);
-    put_status(status(last.console.contents.unit), output, last.written)
+    put_status_by(status(last.console.contents.unit), output, last.written)
 }

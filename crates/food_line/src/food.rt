@@ -11,7 +11,7 @@ use digits::Number;
 use field::{Means, date_row, kind_row, mean_row, product_row, reading_row};
 use format::{Format, tagged_at};
 use rows::refusal::Refusal;
-use rows::{Row, first_of};
+use rows::{Row, first_of_by};
 
 // The format of a food line.
 #[derive(Clone, Copy)]
@@ -68,7 +68,7 @@ impl Format<BYTES> for FoodLine {
     // The first of rows 3 to 7 that fits.
     #[tactic(auto, unfolding(rows::specs::Rows::first_row))]
     fn first_row(self, f: Fields) -> Result<(), Refusal> {
-        first_of(&[
+        first_of_by(&[
             Row::new(Refusal::Kind, kind_row(f.kind)),
             Row::new(Refusal::Date, date_row(f.year, f.month)),
             Row::new(Refusal::Product, product_row(f.product)),

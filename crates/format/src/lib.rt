@@ -12,7 +12,7 @@ ghost use Rattle.format.specs.Layout.{Layout, read_of, line_rows, written_of, bu
 ghost use Rattle.format.specs.Sound.{AreTables, FieldsBack, RecordBack};
 ghost use Rattle.format.specs.Write.{BufferKept};
 
-pub use line::{read_line, write_line};
+pub use line::{read_line, write_line, write_line_by};
 use rows::refusal::Refusal;
 pub use tagged::tagged_at;
 
@@ -83,5 +83,5 @@ pub fn write<F: Format<BYTES>, const BYTES: usize>(
 {
     let fields = format.fields_of(held);
     let bytes = format.bytes_in(fields);
-    write_line(format.first_row(fields), &bytes, buffer)
+    write_line_by(format.first_row(fields), &bytes, buffer)
 }

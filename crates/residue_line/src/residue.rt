@@ -12,7 +12,7 @@ use field::date_row;
 use field::residue::{compound_row, log_row, residue_kind_row, result_row};
 use format::{Format, tagged_at};
 use rows::refusal::Refusal;
-use rows::{Row, first_of};
+use rows::{Row, first_of_by};
 
 // The format of a residue line of a compound.
 #[derive(Clone, Copy)]
@@ -67,7 +67,7 @@ impl Format<BYTES> for ResidueLine {
     // The first of these rows that fits, in request One's order.
     #[tactic(auto, unfolding(rows::specs::Rows::first_row))]
     fn first_row(self, f: Fields) -> Result<(), Refusal> {
-        first_of(&[
+        first_of_by(&[
             Row::new(Refusal::Kind, residue_kind_row(f.kind)),
             Row::new(Refusal::Date, date_row(f.year, f.month)),
             Row::new(Refusal::Compound, compound_row(self.compound, f.compound)),

@@ -28,7 +28,7 @@ impl Row {
 }
 
 // Nothing where no row fits, or what stands for the refusal of the first that does.
-pub fn first_of<R: Copy>(rows: &[Row<R>]) -> Result<(), R>
+pub fn first_of_by<R: Copy>(rows: &[Row<R>]) -> Result<(), R>
     ensures { result ≡ first_row rows.now }
 {
     for row in rows {
@@ -37,4 +37,32 @@ pub fn first_of<R: Copy>(rows: &[Row<R>]) -> Result<(), R>
         }
     }
     Ok(())
+}
+
+// The same of rows by name, so that a call need not say what stands for a refusal.
+pub fn first_of(rows: &[Row]) -> Result<(), Refusal>
+    ensures { result ≡ first_row rows.now }
+{
+    first_of_by(rows)
+}
+
+#[cfg(test)]
+mod tests {
+    use super::*;
+
+    // No row is there to say what stands for a refusal.
+    #[test]
+    fn none_of_no_rows(rt: HostRuntime) {
+        assert!(rt; first_of(&[]).is_ok());
+    }
+
+    #[test]
+    fn first_of_two_that_fit(rt: HostRuntime) {
+        let rows = [
+            Row::new(Refusal::Kind, false),
+            Row::new(Refusal::Mean, true),
+            Row::new(Refusal::Date, true),
+        ];
+        assert_eq!(rt; first_of(&rows), Err(Refusal::Mean));
+    }
 }

@@ -2,7 +2,7 @@
 
 ghost use Rattle.std.specs.Prelude.{◌≡◌, ◌≤◌, length};
 ghost use Rattle.difference.specs.Contribution.{CHARTS};
-ghost use Rattle.text.specs.Text.{stage_bytes_by, run_bytes, run_texts, status_text_by};
+ghost use Rattle.text.specs.Text.{stage_bytes_by, run_bytes, run_texts, status_text_by, status_text};
 ghost use Rattle.text.specs.bounds.Room.{RUNS, STATUS as STATUS_ROOM};
 ghost use Rattle.text.specs.Buffer.{with_text, put_text, put_place};
 
@@ -62,9 +62,9 @@ fn put_charts(mask: u16, charts: [ChartReport; CHARTS], room: &mut [u8]) -> usiz
     end
 }
 
-// Puts the status into the buffer, from `at` on, as `put_answer` does, and gives the place after it. Where there might be no
+// Puts the status into the buffer, from `at` on, as `put_answer_by` does, and gives the place after it. Where there might be no
 // room for it nothing changes.
-pub fn put_status<S: Numbered>(report: Report<S>, buffer: &mut [u8], at: usize) -> usize
+pub fn put_status_by<S: Numbered>(report: Report<S>, buffer: &mut [u8], at: usize) -> usize
     ensures place { result ≡ put_place STATUS_ROOM buffer.old at (status_text_by S.number report) }
     ensures text { buffer.new ≡ put_text STATUS_ROOM buffer.old at (status_text_by S.number report) }
 {
@@ -74,5 +74,66 @@ pub fn put_status<S: Numbered>(report: Report<S>, buffer: &mut [u8], at: usize) 
         at + end + put_charts(report.mask, report.charts, &mut room[end..])
     } else {
         at
+    }
+}
+
+// The same of a report that names the stage, as a unit says it, so that a call need not say what stands for a stage.
+pub fn put_status(report: Report, buffer: &mut [u8], at: usize) -> usize
+    ensures place { result ≡ put_place STATUS_ROOM buffer.old at (status_text report) }
+    ensures text { buffer.new ≡ put_text STATUS_ROOM buffer.old at (status_text report) }
+{
+    put_status_by(report, buffer, at)
+}
+
+#[cfg(test)]
+mod tests {
+    use super::*;
+    use reply::stage::Stage;
+
+    // A caller's own word for a stage, which says of itself alone what it stands for.
+    #[derive(Clone, Copy)]
+    struct Word;
+
+    impl From<Word> for Stage {
+        fn from(_: Word) -> Stage {
+            Stage::Accredited
+        }
+    }
+
+    // The status line, and a line for the chart that is over.
+    #[test]
+    fn one_chart_over(rt: HostRuntime) {
+        let mut charts = [ChartReport::default(); CHARTS];
+        charts[1] = ChartReport {
+            over: true,
+            first: 3,
+            last: 258,
+            value: -2,
+        };
+        let report = Report {
+            stage: Word.into(),
+            samples: 258,
+            mask: 2,
+            misses: true,
+            charts,
+        };
+        let mut buffer = [b'-'; STATUS + 1];
+        assert_eq!(rt; put_status(report, &mut buffer, 1), 33);
+        assert!(rt; buffer.starts_with(b"-020102000201\n0100030102fffffffe\n-"));
+    }
+
+    // The longest status is asked for.
+    #[test]
+    fn room_for_all(rt: HostRuntime) {
+        let report = Report {
+            stage: Stage::Closed,
+            samples: 0,
+            mask: 0,
+            misses: false,
+            charts: [ChartReport::default(); CHARTS],
+        };
+        let mut buffer = [b'-'; STATUS - 1];
+        assert_eq!(rt; put_status(report, &mut buffer, 0), 0);
+        assert!(rt; buffer.iter().all(|&byte| byte == b'-'));
     }
 }

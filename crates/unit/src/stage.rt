@@ -17,7 +17,7 @@ use difference::category::Category;
 use reply::event::Event;
 use reply::stage::Stage;
 use rows::refusal::Refusal;
-use rows::{Row, first_of};
+use rows::{Row, first_of_by};
 use seen::Seen;
 use study::LINES;
 
@@ -45,7 +45,7 @@ fn first_row(u: Contents, x: Seen) -> Result<(), Refusal>
     let accredited = u.stage == Stage::Accredited;
     let stage = x.study == accredited;
     let full = (!x.study & !x.missed) & ((x.year == stretch.year) & (FULL <= stretch.samples));
-    first_of(&[
+    first_of_by(&[
         Row::new(Refusal::Closed, is_closed(category, u.stage)),
         Row::new(Refusal::Stage, stage),
         Row::new(Refusal::Backdated, x.month < u.month),

@@ -69,7 +69,7 @@ loop-output-preserved-then-is_empty c =
     let i = c.loop-output.invariant in
     let found = c.in-Some.ensures.cases.0 in
     let z = ended i.0 i.1 (rw c.is_empty.ensures at c.loop-output-test.true) c.line_end.ensures c.split_at.ensures.front c.split_at.ensures.back c.hold.ensures _ _ found in
-    let put = c.put_status-written.ensures in (
+    let put = c.put_status_by-written.ensures in (
       i.0,
       going_empty z.0 z.1 _ _ _ _ _ found z.2
           (ap length (sym c.line-line.ensures) ∙ eqb-true _ 0 (sym c.is_empty-in-Some.ensures ∙ c.if-is_empty.true)) c.status.ensures.whole put.place put.text,
@@ -80,7 +80,7 @@ loop-output-preserved-else-is_empty c =
     let i = c.loop-output.invariant in
     let found = c.in-Some.ensures.cases.0 in
     let z = ended i.0 i.1 (rw c.is_empty.ensures at c.loop-output-test.true) c.line_end.ensures c.split_at.ensures.front c.split_at.ensures.back c.hold.ensures _ _ found in
-    let put = c.put_answer-written.ensures in
+    let put = c.put_answer_by-written.ensures in
     let whole = rw c.line-line.ensures at c.take-answer.ensures.whole in (
       i.0,
       going_given z.0 z.1 _ _ c.take-answer.result _ _ _ found z.2

@@ -36,7 +36,7 @@ returns g c =
     let bytes = c.bytes_in-bytes.ensures in
     let long : length c.bytes_in-bytes.result ≡ g.row.BYTES = search rules in
     let row = row_is g.row.BYTES l r buffer _ _ _ same c.first_row.ensures long in
-    let e = c.write_line.ensures.answer ∙ row in
-    let f = c.write_line.ensures.digits ∙ buffer_is g.row.BYTES l r buffer _ _ _ same row bytes in
+    let e = c.write_line_by.ensures.answer ∙ row in
+    let f = c.write_line_by.ensures.digits ∙ buffer_is g.row.BYTES l r buffer _ _ _ same row bytes in
     let k = clauses g.row.BYTES l r buffer _ _ e f (ap length (sym (bytes ∙ ap l.bytes_in same)) ∙ long) c.fields_of-fields.ensures.back (g.met.F.Format.tables _ _) in
     record { answer = e; bytes = f; back = k.0; kept = k.1.0; first = k.1.1 }

@@ -1,11 +1,11 @@
--- `put_answer` meets its contract: the line is that of the event's two bytes, where there is room for it.
+-- `put_answer_by` meets its contract: the line is that of the event's two bytes, where there is room for it.
 use Rattle.std.proofs.Common.{ℕ, ◌+◌, ◌≤◌, length, sym, ap, ◌∙◌, arith}
 use borrow.Author.Tests.{leb-true}
 use Rattle.text.specs.Text.{answer_text_by}
 use Rattle.text.specs.bounds.Room.{ANSWER}
 use Rattle.text.proofs.BufferLaws.{cut_length, put_in_cut}
 use Rattle.text.proofs.PutLaws.{put_yes, put_no, answer_length_by}
-use Rattle.text.proofs.answer.put_answer.Goals as goal
+use Rattle.text.proofs.answer.put_answer_by.Goals as goal
 
 pub put_line-requires : goal.put_line-requires
 put_line-requires g c =

@@ -1,9 +1,9 @@
--- `first_of` meets its contract: a row decides where it fits, else what is left after it, and past the last none fits.
+-- `first_of_by` meets its contract: a row decides where it fits, else what is left after it, and past the last none fits.
 use mathlib.Core.Path.{sym, ap, ◌∙◌}
 use Rattle.std.proofs.Common.{Err}
 use Rattle.rows.specs.declared.Row.{Row}
 use Rattle.rows.proofs.RowsLaws.{fits_at, passed_at, none_left}
-use Rattle.rows.proofs.first_of.Goals as goal
+use Rattle.rows.proofs.first_of_by.Goals as goal
 
 pub returns-then-row : goal.returns-then-row
 returns-then-row g c =

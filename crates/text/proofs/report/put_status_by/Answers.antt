@@ -1,4 +1,4 @@
--- `put_status` meets its contract: the charts' lines stand behind the status line, where there is room for all.
+-- `put_status_by` meets its contract: the charts' lines stand behind the status line, where there is room for all.
 use Rattle.std.proofs.Common.{◌+◌, ◌≤◌, length, sym, ◌∙◌, arith, length-append}
 use borrow.Author.Tests.{leb-true}
 use Rattle.difference.specs.Contribution.{CHARTS}
@@ -7,7 +7,7 @@ use Rattle.text.specs.bounds.Room.{STATUS}
 use Rattle.text.proofs.BufferLaws.{cut_length, put_two, line_length_lem}
 use Rattle.text.proofs.PutLaws.{put_yes, put_no}
 use Rattle.text.proofs.StatusLaws.{runs_length}
-use Rattle.text.proofs.report.put_status.Goals as goal
+use Rattle.text.proofs.report.put_status_by.Goals as goal
 
 pub put_line-end-requires : goal.put_line-end-requires
 put_line-end-requires g c =
